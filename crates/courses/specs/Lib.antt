@@ -1,0 +1,16 @@
+pub mod Element
+pub mod Ranges
+pub mod Interaction
+pub mod Logs
+pub mod Steps
+pub mod Renaming
+pub mod Handlers
+pub mod Interleaving
+pub mod Course
+pub mod Always
+pub mod Copying
+pub mod Weaving
+pub mod Private
+pub mod Plans
+pub mod Columns
+pub mod Frames
