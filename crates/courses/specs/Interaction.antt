@@ -1,5 +1,5 @@
 -- Interaction trees: programs as trees of single accesses to a store, and what such a tree does to a store.
-use Rattle.std.specs.Prelude.{ℕ, suc, List, [], ◌∷◌, Option, Some, None}
+use Rattle.std.specs.Prelude.{ℕ, ℤ, suc, List, [], ◌∷◌, Option, Some, None}
 use Rattle.courses.specs.Element.{Value, Element, Store, put}
 
 -- what an interaction announces beside its accesses
@@ -9,6 +9,8 @@ pub data Note : Type 0 where
   Own_writes : Element → Note
   -- a statement or an iteration begins
   Turn : Note
+  -- a variable is made with these bounds, as its declaration gives them
+  Makes : List (ℤ × ℤ) → Note
 
 pub data Event : Type 0 where
   Reads : Element → Event

@@ -1,7 +1,7 @@
 -- Logs, what they hold, and interactions that do the same.
 use Rattle.std.specs.Prelude.{◌≡◌, ℕ, suc, List, [], ◌∷◌, ◌++◌, Bool, true, false, ◌||◌, if◌then◌else◌}
 use Rattle.courses.specs.Element.{Element, same_element, Store, nobody}
-use Rattle.courses.specs.Interaction.{Own_reads, Own_writes, Turn, Event, Reads, Writes, Announces, Interaction, Orders, answer_of, next_of, log_of, store_of}
+use Rattle.courses.specs.Interaction.{Own_reads, Own_writes, Turn, Makes, Event, Reads, Writes, Announces, Interaction, Orders, answer_of, next_of, log_of, store_of}
 
 abbrev pub reads_it : Event → Element → Bool
 reads_it (Reads e) x = same_element e x
@@ -41,6 +41,7 @@ turns (Writes e ∷ ts) = turns ts
 turns (Announces (Own_reads e) ∷ ts) = turns ts
 turns (Announces (Own_writes e) ∷ ts) = turns ts
 turns (Announces Turn ∷ ts) = suc (turns ts)
+turns (Announces (Makes bounds) ∷ ts) = turns ts
 
 -- no element is touched by both, unless both only read it
 abbrev pub Clear : List Event → List Event → Type 0

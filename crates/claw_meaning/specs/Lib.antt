@@ -1,0 +1,13 @@
+pub mod Syntax
+pub mod Scope
+pub mod Kinds
+pub mod Scene
+pub mod Evaluation
+pub mod Statements
+pub mod Units
+pub mod Frames
+pub mod Runs
+pub mod Columns
+pub mod Kept
+pub mod RowAdd
+pub mod Rows
