@@ -7,7 +7,7 @@ use Rattle.claw_meaning.proofs.add_row.Goals as goal
 
 -- src/lib.rt
 pub returns : goal.returns
-unfolding is_arithmetic, is_relation, applied, exact, compared, fitted, in_kind, is_whole, least, greatest, put, same_element
+unfolding is_arithmetic is_relation applied exact compared fitted in_kind is_whole least greatest put same_element
 returns c = record {
   first_column = refl;
   second_column = refl;
