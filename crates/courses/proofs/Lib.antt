@@ -16,6 +16,10 @@ pub mod Orderlies
 pub mod Shared
 pub mod Lockstep_laws
 pub mod Column_loops
+pub mod Framed
+pub mod Near
+pub mod Restoring
+pub mod Forgetting
 pub mod Planned
 pub mod Set_aside
 pub mod Weave_run
