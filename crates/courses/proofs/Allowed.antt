@@ -1,17 +1,16 @@
 -- What holds of an interaction that always keeps to what it may do, and how such interactions are put together.
 use Rattle.std.proofs.Common.{◌≡◌, ℕ, suc, refl, ap, sym, ◌∙◌, List, [], ◌∷◌, Bool, true, false, ◌||◌, subst}
-use Rattle.std.specs.Prelude.{if◌then◌else◌}
 use Rattle.std.proofs.lemmas.Bool.{false≢true}
 use Rattle.courses.specs.Element.{Value, Undefined, Element, same_element, Store, put, blank}
-use Rattle.courses.specs.Interaction.{Note, Own_reads, Own_writes, Reads, Writes, Announces, Interaction, Done, Trap, Read, Write, Order, Announce, bind, Orders, answer_of, log_of, store_of}
+use Rattle.courses.specs.Interaction.{Note, Own_reads, Interaction, Done, Trap, Read, Write, Order, Announce, bind, Orders, log_of, store_of}
 use Rattle.courses.specs.Logs.{is_read, is_written}
 use Rattle.courses.specs.Renaming.{renamed}
 use Rattle.courses.specs.Handlers.{keeping, given, hushed, IsSettled}
-use Rattle.courses.specs.Course.{Sort, Nothing, Answer, Course, Give, Get, Put, Tell, Loop, Scope, and_then, in_order, line}
+use Rattle.courses.specs.Course.{Sort, Nothing, Answer, Course, Get, Put, Tell, Loop, Scope, and_then, in_order, line}
 use Rattle.courses.specs.Copying.{wiped, with_values, stored}
 use Rattle.courses.specs.Always.{May, Always, Obeys, AllowsMore, aside, TellsOwn, writes_of, WritesOnly, Within}
-use Rattle.courses.proofs.Stores.{same_element-equal, put-other}
-use Rattle.courses.proofs.Alike.{or_left, or_right, unwritten}
+use Rattle.courses.proofs.Stores.{same_element-equal}
+use Rattle.courses.proofs.Alike.{or_right, unwritten}
 use Rattle.courses.proofs.Lines.{line_then}
 
 pub always_bind : {A B : Type 0} (m : May) (r : Interaction A) (k : A → Interaction B) → Always m r → ((a : A) → Always m (k a)) → Always m (bind r k)

@@ -1,10 +1,10 @@
 -- A marked loop whose iterations are the columns, in lock step with the columns' own interactions.
-use Rattle.std.proofs.Common.{◌≡◌, ℕ, suc, ℤ, pos, ◌+ℤ◌, refl, ap, sym, ◌∙◌, subst, List, [], ◌∷◌, map, Bool, true, false, ◌||◌, eqb, eqb-true, eq-eqb, Option, Some, None}
-use Rattle.std.specs.Prelude.{is_some, if◌then◌else◌}
+use Rattle.std.proofs.Common.{◌≡◌, ℕ, suc, ℤ, pos, ◌+ℤ◌, refl, ap, sym, ◌∙◌, subst, List, [], ◌∷◌, map, Bool, true, false, ◌||◌, eqb, eqb-true, eq-eqb, Some}
+use Rattle.std.specs.Prelude.{is_some}
 use Rattle.std.specs.Ordering.{int_eq}
 use Rattle.std.proofs.lemmas.Bool.{false≢true}
 use mathlib.Core.Path.{fun_ext}
-use Rattle.courses.specs.Element.{Value, Undefined, Element, same_element, Store, merged, blank, nobody}
+use Rattle.courses.specs.Element.{Value, Undefined, Element, Store, merged, blank, nobody}
 use Rattle.courses.specs.Ranges.{up_from, wholes_from}
 use Rattle.courses.specs.Interaction.{Interaction, Done, Order, bind, Orders, answer_of, log_of, store_of}
 use Rattle.courses.specs.Logs.{is_read, is_written, is_touched, others}

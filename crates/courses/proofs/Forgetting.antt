@@ -7,7 +7,7 @@ use Rattle.courses.specs.Element.{Value, Undefined, Element, same_element, Store
 use Rattle.courses.specs.Interaction.{Note, Event, Reads, Writes, Announces, Interaction, Done, Trap, Read, Write, Order, Announce, bind, Orders, answer_of, next_of, log_of, store_of}
 use Rattle.courses.specs.Logs.{others}
 use Rattle.courses.specs.Handlers.{Forgets}
-use Rattle.courses.specs.Course.{Sort, Answer, Course, Give, Put, Tell, and_then, line}
+use Rattle.courses.specs.Course.{Sort, Course, Put, Tell, line}
 use Rattle.courses.specs.Copying.{among, wiped, stored, put_all}
 use Rattle.courses.specs.Weaving.{IsOrderly}
 use Rattle.courses.proofs.Stores.{same_element-itself}

@@ -1,18 +1,17 @@
 -- Frames and the stores that they show: what is filled is looked up again, and a frame is filled by what it shows.
-use Rattle.std.proofs.Common.{◌≡◌, ℕ, zero, suc, ℤ, pos, ◌+ℤ◌, refl, ap, sym, ◌∙◌, subst, List, [], ◌∷◌, ◌++◌, map, length, flat_map, Bool, true, false, ◌&&◌, ◌||◌, eqb, eq-eqb, arith}
+use Rattle.std.proofs.Common.{◌≡◌, ℕ, suc, ℤ, pos, ◌+ℤ◌, refl, ap, sym, ◌∙◌, List, [], ◌∷◌, ◌++◌, map, length, flat_map, Bool, true, false, ◌&&◌, ◌||◌, arith}
 use Rattle.std.specs.Prelude.{if◌then◌else◌}
 use Rattle.std.specs.Ordering.{int_eq}
 use Rattle.std.proofs.lemmas.Int.{ints}
 use Rattle.std.proofs.lemmas.Bool.{false≢true}
 use mathlib.Core.Path.{ap₂}
-use Rattle.courses.specs.Element.{Value, Undefined, Element, same_name, same_index, Store}
-use Rattle.courses.specs.Ranges.{up_from, wholes, wholes_from, extent}
+use Rattle.courses.specs.Element.{Value, Element, same_name, same_index, Store}
+use Rattle.courses.specs.Ranges.{up_from, wholes, extent}
 use Rattle.courses.specs.Steps.{member, Distinct}
 use Rattle.courses.specs.Columns.{is_column}
 use Rattle.courses.specs.Frames.{Entry, places, found, is_place, is_named, look, inside, filled, has_name, IsFrame}
 use Rattle.courses.proofs.Stores.{and_both, same_name-decides, same_index-decides}
-use Rattle.courses.proofs.Alike.{or_left, or_right, or_false}
-use Rattle.courses.proofs.Shared.{int_eq-itself, int_eq-equal}
+use Rattle.courses.proofs.Alike.{or_left, or_right}
 use Rattle.courses.proofs.Column_loops.{of_column}
 use Rattle.courses.proofs.Planned.{up_distinct}
 

@@ -3,11 +3,11 @@ use Rattle.std.proofs.Common.{◌≡◌, ℕ, suc, refl, ap, sym, ◌∙◌, ◌
 use Rattle.std.specs.Prelude.{if◌then◌else◌}
 use Rattle.std.proofs.lemmas.Bool.{false≢true}
 use mathlib.Core.Path.{fun_ext}
-use Rattle.courses.specs.Element.{Value, Element, same_element, Store, put, nobody, merged}
+use Rattle.courses.specs.Element.{Value, Element, same_element, Store, put, merged}
 use Rattle.courses.specs.Interaction.{Reads, Writes, Own_reads, Interaction, Done, Trap, Read, Write, Order, Announce, bind, Orders, answer_of, next_of, log_of, store_of}
 use Rattle.courses.specs.Logs.{others}
 use Rattle.courses.specs.Renaming.{renamed}
-use Rattle.courses.specs.Handlers.{hushed, given, keeping, holding}
+use Rattle.courses.specs.Handlers.{hushed, given, keeping, holding, KeptAside}
 use Rattle.courses.specs.Always.{WritesOnly}
 use Rattle.courses.proofs.Stores.{same_element-equal, put-other}
 
@@ -86,14 +86,6 @@ given_run p w c (Write e v r) o s j a h =
 given_run p w c (Order n f) o s j a h = absurd (false≢true h.0)
 given_run p w c (Announce u r) o s j a h =
     let t = given_run p w c r o s j a h.1 in record { answer = t.answer; next = t.next; store = t.store; kept = t.kept; log = t.log }
-
--- a run that keeps elements aside is the run from the merged store
-pub record KeptAside {A : Type 0} (p : Element → Bool) (t : Store) (r : Interaction A) (o : Orders) (s : Store) (j : ℕ) : Type 0 where
-  pub answer : answer_of (keeping p t r) o s j ≡ answer_of r o (merged p t s) j
-  pub next : next_of (keeping p t r) o s j ≡ next_of r o (merged p t s) j
-  pub store : (e : Element) → p e ≡ false → store_of (keeping p t r) o s j e ≡ store_of r o (merged p t s) j e
-  pub log : others nobody (log_of (keeping p t r) o s j) ≡ others p (log_of r o (merged p t s) j)
-  pub own : (e : Element) → p e ≡ true → store_of (keeping p t r) o s j e ≡ s e
 
 own_put : (p : Element → Bool) (t s : Store) (e : Element) (v : Value) → p e ≡ true → merged p (put t e v) s ≡ put (merged p t s) e v
 unfolding merged put

@@ -24,3 +24,6 @@ pub mod Planned
 pub mod Set_aside
 pub mod Weave_run
 pub mod Two_lines
+pub mod Served
+pub mod Turning
+pub mod Sampled

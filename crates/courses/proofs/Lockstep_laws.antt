@@ -1,14 +1,14 @@
 -- Columns in lock step: one part after another, parts on shared elements alone, and what is known.
-use Rattle.std.proofs.Common.{◌≡◌, ℕ, ℤ, pos, eq-eqb, refl, ap, sym, ◌∙◌, subst, List, [], ◌∷◌, Bool, true, false, ◌||◌, ◌⊎◌, inl, inr, eqb, eq-eqb, Option, Some, None}
+use Rattle.std.proofs.Common.{◌≡◌, ℕ, ℤ, refl, ap, sym, ◌∙◌, subst, List, [], ◌∷◌, Bool, true, false, ◌||◌, ◌⊎◌, inl, inr, Option, Some, None}
 use Rattle.std.specs.Prelude.{is_some}
 use Rattle.std.specs.Ordering.{int_eq}
-use Rattle.std.proofs.lemmas.Bool.{ false≢true}
+use Rattle.std.proofs.lemmas.Bool.{false≢true}
 use Rattle.courses.specs.Element.{Value, Element, Store}
 use Rattle.courses.specs.Interaction.{Note, Interaction, Announce, bind, Orders, answer_of, next_of, store_of}
 use Rattle.courses.specs.Renaming.{view}
 use Rattle.courses.specs.Handlers.{IsSettled}
 use Rattle.courses.specs.Weaving.{IsFair}
-use Rattle.courses.specs.Columns.{Varying, Knowledge, column, is_column, Knows, Kept, Lockstep, IsShared, all_undefined}
+use Rattle.courses.specs.Columns.{Varying, Knowledge, column, is_column, Knows, Kept, Lockstep, IsShared}
 use Rattle.courses.proofs.Binds.{follows, stops}
 use Rattle.courses.proofs.Renames.{renamed_run}
 use Rattle.courses.proofs.Loops.{not_some}

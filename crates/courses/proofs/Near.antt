@@ -1,7 +1,7 @@
 -- An interaction that doesn't read some elements does the same from two stores that differ in these alone.
-use Rattle.std.proofs.Common.{◌≡◌, ℕ, suc, refl, ap, sym, ◌∙◌, ◌∷◌, Bool, true, false}
+use Rattle.std.proofs.Common.{◌≡◌, ℕ, suc, refl, ap, ◌∙◌, ◌∷◌, Bool, true, false}
 use Rattle.std.specs.Prelude.{if◌then◌else◌}
-use Rattle.courses.specs.Element.{Value, Element, Store, put, merged}
+use Rattle.courses.specs.Element.{Element, Store, put, merged}
 use Rattle.courses.specs.Interaction.{Reads, Writes, Announces, Interaction, Done, Trap, Read, Write, Order, Announce, Orders, answer_of, next_of, log_of, store_of}
 use Rattle.courses.specs.Always.{May, Always}
 use Rattle.courses.specs.Private.{AgreeBut}

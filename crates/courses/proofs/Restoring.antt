@@ -1,13 +1,12 @@
 -- Courses that give one answer alone, and courses that leave an element with the value that it had.
-use Rattle.std.proofs.Common.{◌≡◌, ℕ, refl, ap, sym, ◌∙◌, subst, List, [], ◌∷◌, Bool, true, false, Option, Some, None}
+use Rattle.std.proofs.Common.{◌≡◌, ℕ, ap, sym, ◌∙◌, subst, List, [], ◌∷◌, Bool, true, false}
 use Rattle.std.specs.Prelude.{is_some}
-use Rattle.std.proofs.lemmas.Bool.{false≢true}
-use Rattle.courses.specs.Element.{Value, Undefined, Element, same_element, Store, put, blank}
+use Rattle.courses.specs.Element.{Value, Element, same_element, Store, put, blank}
 use Rattle.courses.specs.Interaction.{Note, Interaction, Done, Trap, Read, Write, Order, Announce, bind, Orders, answer_of, next_of, store_of}
 use Rattle.courses.specs.Handlers.{keeping}
 use Rattle.courses.specs.Course.{Sort, Answer, Course, Give, Fail, Get, Put, Tell, Scope, and_then, line}
 use Rattle.courses.specs.Copying.{wiped, with_values, stored}
-use Rattle.courses.specs.Always.{May, Always, Obeys}
+use Rattle.courses.specs.Always.{May, Obeys}
 use Rattle.courses.specs.Columns.{AnswersOnly}
 use Rattle.courses.proofs.Stores.{put-other}
 use Rattle.courses.proofs.Binds.{follows}

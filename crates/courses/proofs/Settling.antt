@@ -6,7 +6,6 @@ use Rattle.courses.specs.Element.{Value, Element, same_element, Store, put, nobo
 use Rattle.courses.specs.Interaction.{Event, Reads, Writes, Announces, Interaction, Done, Trap, Read, Write, Order, Announce, Orders, answer_of, next_of, log_of, store_of}
 use Rattle.courses.specs.Logs.{is_read, is_written, Clear, others}
 use Rattle.courses.specs.Handlers.{IsSettled, keeping}
-use Rattle.courses.specs.Always.{WritesOnly}
 use Rattle.courses.proofs.Stores.{same_element-equal}
 
 -- the orders don't matter

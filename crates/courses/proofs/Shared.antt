@@ -1,10 +1,10 @@
 -- Where the wide elements of a column lie, and what a column's interaction on them touches.
-use Rattle.std.proofs.Common.{◌≡◌, ℕ, zero, suc, ℤ, pos, ◌+ℤ◌, refl, ap, sym, ◌∙◌, subst, List, [], ◌∷◌, Bool, true, false, not, ◌&&◌, ◌||◌, Option, Some, None, nat_eq, eqb, eq-eqb, arith}
-use Rattle.std.specs.Prelude.{is_some, if◌then◌else◌}
+use Rattle.std.proofs.Common.{◌≡◌, ℕ, zero, suc, ℤ, pos, ◌+ℤ◌, refl, ap, sym, ◌∙◌, subst, List, [], ◌∷◌, Bool, true, false, not, ◌&&◌, ◌||◌, Option, Some, None, eqb, eq-eqb, arith}
+use Rattle.std.specs.Prelude.{is_some}
 use Rattle.std.specs.Ordering.{int_eq}
 use Rattle.std.specs.Cmp.{signed_Decides}
 use Rattle.std.proofs.lemmas.Int.{ints}
-use Rattle.std.proofs.lemmas.Bool.{eqb-true, false≢true}
+use Rattle.std.proofs.lemmas.Bool.{false≢true}
 use mathlib.Core.Path.{fun_ext, ap₂}
 use Rattle.courses.specs.Element.{Element, same_name, same_index, same_element, Store, put}
 use Rattle.courses.specs.Interaction.{Interaction, Done, Trap, Read, Write, Order, Announce, Orders, answer_of, log_of}
@@ -12,7 +12,7 @@ use Rattle.courses.specs.Logs.{is_read, is_written}
 use Rattle.courses.specs.Renaming.{renamed, KeepsApart}
 use Rattle.courses.specs.Handlers.{IsSettled}
 use Rattle.courses.specs.Always.{WritesOnly, writes_of}
-use Rattle.courses.specs.Columns.{Varying, varies, inserted, placed, column, has_at, lies_at, is_own, IsShared, shared_of, AnswersOnly}
+use Rattle.courses.specs.Columns.{Varying, varies, inserted, placed, column, has_at, is_own, IsShared, shared_of, AnswersOnly}
 use Rattle.courses.proofs.Stores.{and_both, same_name-decides, same_element-equal}
 use Rattle.courses.proofs.Allowed.{always_settled, always_more}
 

@@ -1,7 +1,6 @@
 -- The test on elements decides equality, and what a write of one element changes.
-use Rattle.std.proofs.Common.{◌≡◌, ℕ, ℤ, refl, sym, subst, List, Bool, true, false, ◌&&◌}
+use Rattle.std.proofs.Common.{◌≡◌, ℕ, ℤ, refl, subst, List, Bool, true, false, ◌&&◌}
 use Rattle.std.specs.Bool.{Decides}
-use Rattle.std.specs.Ordering.{int_eq}
 use Rattle.std.specs.Cmp.{IsEquivalence, decided, signed_Decides}
 use Rattle.std.specs.Cmp.Lexicographic.{bytes_decides, pointwise_decides}
 use Rattle.std.proofs.lemmas.Bool.{false≢true}

@@ -5,12 +5,12 @@ use Rattle.std.proofs.lemmas.Bool.{false≢true}
 use Rattle.courses.specs.Element.{Element, Store, put, merged, blank}
 use Rattle.courses.specs.Ranges.{up_from}
 use Rattle.courses.specs.Interaction.{Orders, answer_of, next_of, store_of}
-use Rattle.courses.specs.Handlers.{keeping}
+use Rattle.courses.specs.Handlers.{KeptAside, keeping}
 use Rattle.courses.specs.Interleaving.{start, woven, all_ended, weave}
 use Rattle.courses.specs.Course.{Sort, Nothing, Answer, Course, Give, Fail, Get, Put, Tell, Loop, Scope, line}
 use Rattle.courses.specs.Weaving.{IsFair, rising, iterations_of, answer_woven, store_woven, IsOrderly, woven_line, LinesAlike}
 use Rattle.courses.proofs.Binds.{follows, stops}
-use Rattle.courses.proofs.Handled.{KeptAside, keeping_run, kept_store}
+use Rattle.courses.proofs.Handled.{keeping_run, kept_store}
 use Rattle.courses.proofs.Settling.{keeping_settled}
 use Rattle.courses.proofs.Weave_run.{Gives, weave_gives}
 use Rattle.courses.proofs.Wovens.{woven_alike}

@@ -6,14 +6,14 @@ use Rattle.courses.specs.Element.{Element, Store, put, merged, blank}
 use Rattle.courses.specs.Ranges.{up_from}
 use Rattle.courses.specs.Interaction.{Event, Interaction, Done, bind, Orders, answer_of, next_of, store_of}
 use Rattle.courses.specs.Steps.{Steps, ends, after_all, member, SameSteps}
-use Rattle.courses.specs.Handlers.{keeping}
+use Rattle.courses.specs.Handlers.{KeptAside, keeping}
 use Rattle.courses.specs.Interleaving.{woven, all_ended, each_ends, WovenWell}
 use Rattle.courses.specs.Course.{Sort, Nothing, Answer, Course, Give, Fail, Get, Put, Tell, Loop, Scope, on_some, in_order, all_of, line, loop_runs, inner_runs}
 use Rattle.courses.specs.Weaving.{IsFair, rising, iterations_of, answer_woven, store_woven, Prefixes, IsOrderly, AllApart, AreApart, WovenAlike}
 use Rattle.courses.proofs.Alike.{or_left, or_right}
 use Rattle.courses.proofs.Lines.{in_order_bind}
 use Rattle.courses.proofs.Binds.{follows, stops}
-use Rattle.courses.proofs.Handled.{KeptAside, keeping_run, kept_store}
+use Rattle.courses.proofs.Handled.{keeping_run, kept_store}
 use Rattle.courses.proofs.Weaves.{woven_well}
 use Rattle.courses.proofs.Independent.{independent}
 use Rattle.courses.proofs.Loops.{not_some, some_of, agree_merged, alone, AllAlone, all_alone, all_clear, run_apart}
