@@ -1,10 +1,12 @@
 -- One column's interaction beside the interaction of all columns.
-use Rattle.std.specs.Prelude.{◌≡◌, ℕ, zero, suc, ℤ, List, [], ◌∷◌, Bool, true, false, ◌&&◌, ◌||◌, not, if◌then◌else◌, is_some, Option, Some, None}
+use Rattle.std.specs.Prelude.{◌≡◌, ℕ, zero, suc, ℤ, pos, ◌+ℤ◌, List, [], ◌∷◌, Bool, true, false, ◌&&◌, ◌||◌, not, if◌then◌else◌, is_some, Option, Some, None}
 use Rattle.std.specs.Ordering.{int_eq}
-use Rattle.courses.specs.Element.{Value, Undefined, Element, Store, same_element}
-use Rattle.courses.specs.Interaction.{Interaction, Done, Trap, Read, Write, Order, Announce, Orders, answer_of, store_of}
-use Rattle.courses.specs.Renaming.{view}
-use Rattle.courses.specs.Always.{May, Always}
+use Rattle.courses.specs.Element.{Value, Undefined, Element, Store, same_element, blank, merged}
+use Rattle.courses.specs.Interaction.{Interaction, Done, Trap, Read, Write, Order, Announce, Orders, answer_of, log_of, store_of}
+use Rattle.courses.specs.Logs.{others}
+use Rattle.courses.specs.Renaming.{renamed, view}
+use Rattle.courses.specs.Handlers.{Forgets, IsSettled}
+use Rattle.courses.specs.Always.{May, Always, WritesOnly}
 use Rattle.courses.specs.Course.{Course, Way, line, loop_runs}
 use Rattle.courses.specs.Weaving.{IsFair, rising, AllApart, WovenAlike, LinesAlike}
 use Rattle.courses.specs.Plans.{Plan, orders_of}
@@ -105,3 +107,24 @@ pub record Serves (vary : Varying) (cols : List ℤ) (r q : Course Way) (s : Sto
   -- and under each schedule q does the same
   pub woven : (ks : List ℕ) → WovenAlike q ks (orders_of plan) s 0
   pub lines : (ks : List ℕ) → LinesAlike q ks (orders_of plan) s 0
+
+-- an iteration does, but for what is its own, what the column's interaction does on its elements
+pub record RunsColumn {A : Type 0} (own : Element → Bool) (step : Interaction (Unit {0})) (r : Interaction A) (o : Orders) (s : Store) (j : ℕ) : Type 0 where
+  pub ends : is_some (answer_of step o s j) ≡ is_some (answer_of r o s j)
+  pub store : (e : Element) → own e ≡ false → store_of step o s j e ≡ store_of r o s j e
+  pub log : others own (log_of step o s j) ≡ others own (log_of r o s j)
+
+-- the iterations of a marked loop are the columns from low on: r is the interaction of one column, and rest what follows the loop
+pub record AreColumns {A : Type 0} (vary : Varying) (low : ℤ) (own : Element → Bool) (answer : A) (step : ℕ → Interaction (Unit {0})) (r rest : Interaction A) : Type 0 where
+  -- what is each iteration's own are shared variables by their names, and an iteration and the rest undefine them
+  pub private : (e : Element) → own e ≡ true → varies vary e ≡ false
+  pub settled : (k : ℕ) → IsSettled (step k)
+  pub forgets : (k : ℕ) → Forgets own (step k)
+  pub last_answer : (o : Orders) (s : Store) (j : ℕ) → answer_of rest o s j ≡ Some answer
+  pub last_store : (o : Orders) (s : Store) (j : ℕ) → store_of rest o s j ≡ merged own blank s
+  -- the column writes varying elements and these alone, leaves these undefined where they were, and answers so alone
+  pub writes : WritesOnly (λ e. varies vary e || own e) r
+  pub restores : (e : Element) → own e ≡ true → (o : Orders) (s : Store) (j : ℕ) → s e ≡ Undefined → is_some (answer_of r o s j) ≡ true → store_of r o s j e ≡ Undefined
+  pub answers : AnswersOnly answer r
+  -- iteration k, where what is its own is undefined
+  pub runs : (o : Orders) (s : Store) (j k : ℕ) → ((e : Element) → own e ≡ true → s e ≡ Undefined) → RunsColumn own (step k) (renamed (column vary (low +ℤ pos k)) r) o s j

@@ -1,7 +1,8 @@
 -- Handlers: interactions whose accesses of some elements are answered without the store.
-use Rattle.std.specs.Prelude.{◌≡◌, ℕ, Bool, if◌then◌else◌}
-use Rattle.courses.specs.Element.{Value, Element, Store, put, blank, merged}
+use Rattle.std.specs.Prelude.{◌≡◌, ℕ, Bool, true, false, if◌then◌else◌}
+use Rattle.courses.specs.Element.{Value, Element, Store, put, blank, merged, nobody}
 use Rattle.courses.specs.Interaction.{Own_reads, Own_writes, Interaction, Done, Trap, Read, Write, Order, Announce, Orders, answer_of, next_of, log_of, store_of}
+use Rattle.courses.specs.Logs.{others}
 
 -- these elements are kept aside, from what the store t holds of them
 abbrev pub keeping : {A : Type 0} → (Element → Bool) → Store → Interaction A → Interaction A
@@ -11,6 +12,14 @@ keeping p t (Read e f) = if p e then Announce (Own_reads e) (keeping p t (f (t e
 keeping p t (Write e v r) = if p e then Announce (Own_writes e) (keeping p (put t e v) r) else Write e v (keeping p t r)
 keeping p t (Order n f) = Order n (λ o. keeping p t (f o))
 keeping p t (Announce u r) = Announce u (keeping p t r)
+
+-- with these kept aside it answers and logs as from the store that holds them, and leaves them in its own store as they were
+pub record KeptAside {A : Type 0} (p : Element → Bool) (t : Store) (r : Interaction A) (o : Orders) (s : Store) (j : ℕ) : Type 0 where
+  pub answer : answer_of (keeping p t r) o s j ≡ answer_of r o (merged p t s) j
+  pub next : next_of (keeping p t r) o s j ≡ next_of r o (merged p t s) j
+  pub store : (e : Element) → p e ≡ false → store_of (keeping p t r) o s j e ≡ store_of r o (merged p t s) j e
+  pub log : others nobody (log_of (keeping p t r) o s j) ≡ others p (log_of r o (merged p t s) j)
+  pub own : (e : Element) → p e ≡ true → store_of (keeping p t r) o s j e ≡ s e
 
 -- it does the same whatever these elements hold at first
 pub record Forgets {A : Type 0} (own : Element → Bool) (r : Interaction A) : Type 0 where

@@ -14,3 +14,4 @@ pub mod Private
 pub mod Plans
 pub mod Columns
 pub mod Frames
+pub mod Samples

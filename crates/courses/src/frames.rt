@@ -1,0 +1,13 @@
+//! Frames and stores.
+
+ghost use Rattle.std.specs.Prelude.{◌≡◌, List, true};
+ghost use Rattle.courses.specs.Element.{Element, Store};
+ghost use Rattle.courses.specs.Frames.{Entry, look, inside, filled, IsFrame};
+
+/// The bridge between stores, in which proofs are done, and frames, which contracts see.
+pub fn frames()
+    ensures look_filled { (f : List Entry) (s : Store) (e : Element) → inside f e ≡ true → look (filled f s) e ≡ s e }
+    ensures filled_look { (f : List Entry) → IsFrame f → filled f (look f) ≡ f }
+    ensures filled_same { (f : List Entry) (s s' : Store) → IsFrame f → ((e : Element) → inside f e ≡ true → s e ≡ s' e) → filled f s ≡ filled f s' }
+    ensures filled_frame { (f : List Entry) (s : Store) → IsFrame f → IsFrame (filled f s) }
+{}
