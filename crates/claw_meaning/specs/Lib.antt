@@ -11,3 +11,7 @@ pub mod Columns
 pub mod Kept
 pub mod RowAdd
 pub mod Rows
+pub mod Dependence
+pub mod Interface
+pub mod Erasure
+pub mod Spread
