@@ -1,4 +1,5 @@
 pub mod Syntax
+pub mod Plain
 pub mod Scope
 pub mod Kinds
 pub mod Scene

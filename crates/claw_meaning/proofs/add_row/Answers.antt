@@ -1,13 +1,13 @@
 use mathlib.Core.Path.{refl}
-use Rattle.fort_arith.specs.Operators.{is_arithmetic, is_relation, applied, exact, compared}
-use Rattle.fort_arith.specs.Range.{fitted, in_kind, is_whole, least, greatest}
+use Rattle.fort_arith.specs.Operators.{applied, exact, compared}
+use Rattle.fort_arith.specs.Range.{fitted, in_kind, least, greatest}
 use Rattle.courses.specs.Element.{put, same_element}
 use Rattle.claw_meaning.specs.Rows.{AddRow}
 use Rattle.claw_meaning.proofs.add_row.Goals as goal
 
 -- src/lib.rt
 pub returns : goal.returns
-unfolding is_arithmetic is_relation applied exact compared fitted in_kind is_whole least greatest put same_element
+unfolding applied exact compared fitted in_kind least greatest put same_element
 returns c = record {
   first_column = refl;
   second_column = refl;
