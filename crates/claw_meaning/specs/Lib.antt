@@ -10,9 +10,11 @@ pub mod Frames
 pub mod Runs
 pub mod Columns
 pub mod Kept
-pub mod RowAdd
-pub mod Rows
+pub mod AddRow
+pub mod AddRuns
 pub mod Dependence
 pub mod Interface
 pub mod Erasure
 pub mod Spread
+pub mod SmallUnits
+pub mod SmallRuns

@@ -1,9 +1,8 @@
-//! What a program means.
+//! What a program means: the definitions on which every promise of the compiler stands, in `specs/`, over plain trees of programs.
+//!
+//! The functions here run nothing. Each carries a law or a computed row in its contract.
 #![tactic(auto)]
 
-ghost use Rattle.claw_meaning.specs.Rows.{AddRow};
+mod rows;
 
-/// A unit of two column scalars: its columns' runs, and the runs of its program for all columns.
-pub fn add_row()
-    ensures { AddRow }
-{}
+pub use rows::{lost_update, scalars_in_columns, small_runs};

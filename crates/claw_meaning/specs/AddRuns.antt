@@ -4,7 +4,7 @@ use Rattle.courses.specs.Element.{Value, Undefined, Whole}
 use Rattle.courses.specs.Plans.{Plan, Up, Down}
 use Rattle.claw_meaning.specs.Runs.{exec}
 use Rattle.claw_meaning.specs.Columns.{column_run}
-use Rattle.claw_meaning.specs.RowAdd.{source, source_unit, target, target_unit, open_mp, wide, held}
+use Rattle.claw_meaning.specs.AddRow.{source, source_unit, target, target_unit, open_mp, wide, held}
 
 -- from a = 1, 3 and b = 10, 20 each side gives b = 12, 26: column by column, in one loop, and in marked loops in both orders
 pub record AddRow : Type 0 where

@@ -2,8 +2,8 @@ use mathlib.Core.Path.{refl}
 use Rattle.fort_arith.specs.Operators.{applied, exact, compared}
 use Rattle.fort_arith.specs.Range.{fitted, in_kind, least, greatest}
 use Rattle.courses.specs.Element.{put, same_element}
-use Rattle.claw_meaning.specs.Rows.{AddRow}
-use Rattle.claw_meaning.proofs.add_row.Goals as goal
+use Rattle.claw_meaning.specs.AddRuns.{AddRow}
+use Rattle.claw_meaning.proofs.rows.scalars_in_columns.Goals as goal
 
 -- src/lib.rt
 pub returns : goal.returns

@@ -1,0 +1,21 @@
+//! Small programs whose runs are computed from the definitions.
+
+ghost use Rattle.claw_meaning.specs.AddRuns.{AddRow};
+ghost use Rattle.claw_meaning.specs.SmallRuns.{LostUpdate, SmallRuns};
+
+/// A unit of two column scalars, `b = b + a*2`: its columns' runs and the runs of its program for all columns give the same
+/// values, in one loop and in marked loops in both orders, and trap on the same input.
+pub fn scalars_in_columns()
+    ensures { AddRow }
+{}
+
+/// A marked loop whose iterations add to one scalar: every order of iterations adds twice, and a schedule of single accesses
+/// loses an update.
+pub fn lost_update()
+    ensures { LostUpdate }
+{}
+
+/// EXIT from a DO and the turns counted, a call by copy, sections, SUM and SIZE, a function, SELECT, and traps.
+pub fn small_runs()
+    ensures { SmallRuns }
+{}
