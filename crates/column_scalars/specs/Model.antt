@@ -1,6 +1,6 @@
 -- What the assignments of a unit of column scalars do to a store, as plain functions: one column alone, and all columns one
 -- after another.
-use Rattle.std.specs.Prelude.{◌≡◌, ℕ, ℤ, pos, ◌-ℤ◌, ◌<ℤ◌, ◌≤ℤ◌, List, [], ◌∷◌, Option, Some, None, Bool, true, false}
+use Rattle.std.specs.Prelude.{◌≡◌, ℕ, ℤ, pos, ◌-ℤ◌, ◌<ℤ◌, ◌≤ℤ◌, List, [], ◌∷◌, Option, Some, None, true}
 use Rattle.std.specs.List.{Contains}
 use Rattle.std.specs.Option.{option_and_then, option_map}
 use Rattle.fort_arith.specs.declared.kind.Kind.TheVariants.{I4}
@@ -12,11 +12,11 @@ use Rattle.courses.specs.Element.{Value, Undefined, Whole, Truth, Element, Store
 use Rattle.courses.specs.Interaction.{Orders, answer_of, store_of}
 use Rattle.courses.specs.Course.{Signal, Normal, Returns, line}
 use Rattle.courses.specs.Ranges.{wholes}
-use Rattle.claw_meaning.specs.Syntax.{Text, Expr, Numeral, Boolean, Name, Reference, Signed, Binary, Paren, Unit, Stmts}
+use Rattle.claw_meaning.specs.Syntax.{Text, Expr, Numeral, Boolean, Name, Reference, Signed, Binary, Paren, Stmts}
 use Rattle.claw_meaning.specs.Scene.{Callee, Scene}
 use Rattle.claw_meaning.specs.Statements.{meanings, whole_of}
 use Rattle.claw_meaning.specs.Units.{Given, scene_of}
-use Rattle.column_scalars.specs.Scalars.{Scalars, IsScalars, source_unit, wide_unit, program_of}
+use Rattle.column_scalars.specs.Scalars.{Scalars, source_unit, wide_unit, program_of}
 
 -- where a name's value lies: in the unit's scalar, or in column c of its array
 abbrev pub scalar_of : Text → Text → Element
@@ -40,10 +40,32 @@ sum_value values (Boolean b) = None
 sum_value values (Reference x subs) = None
 sum_value values (Paren e) = None
 
+-- a value that is read must be defined
+abbrev pub held : Value → Option Value
+held Undefined = None
+held (Whole n) = Some (Whole n)
+held (Truth b) = Some (Truth b)
+
+-- what an expression gives: a name alone what it holds, a truth value too
+abbrev pub item : (Text → Value) → Expr → Option Value
+item values (Name x) = held (values x)
+item values (Numeral n suffix) = option_map Whole (sum_value values (Numeral n suffix))
+item values (Signed sign e) = option_map Whole (sum_value values (Signed sign e))
+item values (Binary op a b) = option_map Whole (sum_value values (Binary op a b))
+item values (Boolean b) = None
+item values (Reference x subs) = None
+item values (Paren e) = None
+
+-- a value as a default INTEGER; a truth value stays
+abbrev pub integer : Value → Option Value
+integer Undefined = None
+integer (Whole n) = option_map Whole (fitted I4 n)
+integer (Truth b) = Some (Truth b)
+
 -- the store after these assignments, where each name lies there; none where one traps
 abbrev pub ran : (Text → Element) → List (Text × Expr) → Store → Option Store
 ran at [] s = Some s
-ran at (a ∷ rest) s = option_and_then (λ n. ran at rest (put s (at a.0) (Whole n))) (option_and_then (fitted I4) (sum_value (λ x. s (at x)) a.1))
+ran at (a ∷ rest) s = option_and_then (λ v. ran at rest (put s (at a.0) v)) (option_and_then integer (item (λ x. s (at x)) a.1))
 
 -- the columns one after another, the dimension's variable holding the column's number
 abbrev pub ran_each : Text → Text → List (Text × Expr) → List ℤ → Store → Option Store

@@ -1,20 +1,6 @@
 //! Units of column scalars: the smallest units that are made for all columns, and what their programs keep.
 #![tactic(auto)]
 
-ghost use Rattle.courses.specs.Plans.{Plan};
-ghost use Rattle.claw_meaning.specs.Kept.{Kept};
-ghost use Rattle.column_scalars.specs.Scalars.{Scalars, IsScalars, source_unit, wide_unit, program_of};
-ghost use Rattle.column_scalars.specs.Model.{SourceDoes, WideDoesSo, AreColumnwise};
+mod laws;
 
-/// The statements of such a unit, and of its program for all columns, do what the plain model says.
-pub fn does_as_modelled()
-    ensures source { (u : Scalars) → IsScalars u → SourceDoes u }
-    ensures wide { (u : Scalars) → IsScalars u → WideDoesSo u }
-    ensures columns { (u : Scalars) → IsScalars u → AreColumnwise u }
-{}
-
-/// For every number of columns, every well-typed input and every plan, the program for all columns traps exactly where
-/// some column's run of the source traps, and else leaves each column what that run leaves.
-pub fn keeps_columns()
-    ensures { (u : Scalars) → IsScalars u → (plan : Plan) → Kept (program_of (source_unit u)) (program_of (wide_unit u)) plan }
-{}
+pub use laws::{does_as_modelled, keeps_columns};
