@@ -1,0 +1,39 @@
+//! Each law is a call that does nothing and returns.
+
+use crate::columns::{
+    column_elements, column_loops, columns_in_sequence, columns_served, shared_parts,
+};
+use crate::elements::{element_equality, single_writes};
+use crate::frames::frames;
+use crate::orders::{fair_plans, law_of_orders, private_orders, weaving};
+use crate::readings::{course_line, loop_runs_apart, schedules, woven_lines};
+use crate::samples::{lost_update, lost_update_inside};
+use crate::trees::{allowed_writes, kept_aside, locality, monad_laws, renaming, turns_add_up};
+
+#[test]
+fn laws_return(rt: HostRuntime) {
+    element_equality();
+    single_writes();
+    monad_laws();
+    turns_add_up();
+    locality();
+    renaming();
+    kept_aside();
+    allowed_writes();
+    law_of_orders();
+    private_orders();
+    weaving();
+    fair_plans();
+    course_line();
+    loop_runs_apart();
+    schedules();
+    woven_lines();
+    column_elements();
+    columns_in_sequence();
+    shared_parts();
+    column_loops();
+    columns_served();
+    frames();
+    lost_update();
+    lost_update_inside();
+}
