@@ -26,4 +26,6 @@ pub mod Weave_run
 pub mod Two_lines
 pub mod Served
 pub mod Turning
+pub mod Bounds
+pub mod Sequences
 pub mod Sampled

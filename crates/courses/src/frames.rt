@@ -1,8 +1,13 @@
 //! Frames and stores.
 
-ghost use Rattle.std.specs.Prelude.{◌≡◌, List, true};
+ghost use Rattle.std.specs.Prelude.{◌≡◌, ℤ, List, true};
 ghost use Rattle.courses.specs.Element.{Element, Store};
-ghost use Rattle.courses.specs.Frames.{Entry, look, inside, filled, IsFrame};
+ghost use Rattle.courses.specs.Frames.{Entry, places, is_place, within, look, inside, filled, IsFrame};
+
+/// The places of an array are the lists of one subscript for each dimension within its bounds.
+pub fn array_places()
+    ensures { (bs : List (ℤ × ℤ)) (is : List ℤ) → is_place (places bs) is ≡ within bs is }
+{}
 
 /// The bridge between stores, in which proofs are done, and frames, which contracts see.
 pub fn frames()

@@ -4,9 +4,11 @@ use crate::columns::{
     column_elements, column_loops, columns_in_sequence, columns_served, shared_parts,
 };
 use crate::elements::{element_equality, single_writes};
-use crate::frames::frames;
+use crate::frames::{array_places, frames};
 use crate::orders::{fair_plans, law_of_orders, private_orders, weaving};
-use crate::readings::{course_line, loop_runs_apart, schedules, woven_lines};
+use crate::readings::{
+    course_line, course_monad, courses_in_sequence, loop_runs_apart, schedules, woven_lines,
+};
 use crate::samples::{lost_update, lost_update_inside};
 use crate::trees::{allowed_writes, kept_aside, locality, monad_laws, renaming, turns_add_up};
 
@@ -24,7 +26,9 @@ fn laws_return(rt: HostRuntime) {
     private_orders();
     weaving();
     fair_plans();
+    course_monad();
     course_line();
+    courses_in_sequence();
     loop_runs_apart();
     schedules();
     woven_lines();
@@ -33,6 +37,7 @@ fn laws_return(rt: HostRuntime) {
     shared_parts();
     column_loops();
     columns_served();
+    array_places();
     frames();
     lost_update();
     lost_update_inside();
