@@ -1,14 +1,14 @@
 -- The whole numbers from one bound to another, and the places of an array.
-use Rattle.std.proofs.Common.{◌≡◌, ℕ, zero, suc, ◌≢◌, ◌+◌, ◌<◌, ◌≤◌, ℤ, pos, negsuc, ◌+ℤ◌, ◌≤ℤ◌, ◌<ℤ◌, refl, ap, sym, ◌∙◌, subst, List, [], ◌∷◌, map, Bool, true, false, ◌&&◌, ◌||◌, eqb, eq-eqb, arith}
+use Rattle.std.proofs.Common.{◌≡◌, ℕ, zero, suc, ◌≢◌, ◌+◌, ◌<◌, ◌≤◌, ℤ, pos, negsuc, ◌+ℤ◌, ◌≤ℤ◌, ◌<ℤ◌, refl, ap, sym, ◌∙◌, List, [], ◌∷◌, Bool, true, false, ◌&&◌, ◌||◌, eqb, eq-eqb, arith}
 use Rattle.std.specs.Prelude.{int_le}
 use Rattle.std.specs.Int.{int_gap}
 use Rattle.std.proofs.lemmas.Int.{ints}
 use Rattle.std.proofs.lemmas.Bool.{eqb-true, false≢true}
 use mathlib.Core.Path.{ap₂}
-use Rattle.courses.specs.Ranges.{up_from, wholes, wholes_from, extent}
+use Rattle.courses.specs.Ranges.{up_from, wholes, extent}
 use Rattle.courses.specs.Steps.{member}
-use Rattle.courses.specs.Columns.{is_column}
-use Rattle.courses.specs.Frames.{places, is_place, within}
+use Rattle.courses.specs.Columns.{is_column, inserted}
+use Rattle.courses.specs.Frames.{places, is_place, within, bounds_inserted}
 use Rattle.courses.proofs.Alike.{or_left, or_right}
 use Rattle.courses.proofs.Stores.{and_both}
 use Rattle.courses.proofs.Column_loops.{column_of, of_column}
@@ -89,3 +89,34 @@ place_within [] [] = refl
 place_within [] (i ∷ is) = refl
 place_within (b ∷ bs) [] = no_place b bs
 place_within (b ∷ bs) (i ∷ is) = places_has b bs i is ∙ ap₂ ◌&&◌ (in_wholes b.0 b.1 i) (place_within bs is)
+
+no_subscripts : (k : ℕ) (b : ℤ × ℤ) (bs : List (ℤ × ℤ)) → within (bounds_inserted k b bs) [] ≡ false
+no_subscripts zero b bs = refl
+no_subscripts (suc k) b [] = refl
+no_subscripts (suc k) b (d ∷ bs) = refl
+
+no_bounds : (k : ℕ) (c : ℤ) (is : List ℤ) → within [] (inserted k c is) ≡ false
+no_bounds zero c is = refl
+no_bounds (suc k) c [] = refl
+no_bounds (suc k) c (i ∷ is) = refl
+
+and_none : (a : Bool) → a && false ≡ false
+and_none true = refl
+and_none false = refl
+
+and_turned : (a b c : Bool) → a && (b && c) ≡ b && (a && c)
+and_turned true true c = refl
+and_turned true false c = refl
+and_turned false true c = refl
+and_turned false false c = refl
+
+-- a column's element lies within the wide bounds where the column lies within its own and the element within the column's
+pub within_inserted : (k : ℕ) (b : ℤ × ℤ) (bs : List (ℤ × ℤ)) (c : ℤ) (is : List ℤ) → within (bounds_inserted k b bs) (inserted k c is) ≡ (int_le b.0 c && int_le c b.1) && within bs is
+within_inserted zero b bs c is = refl
+within_inserted (suc k) b [] c [] = refl
+within_inserted (suc k) b [] c (i ∷ is) =
+    ap (λ x. (int_le b.0 i && int_le i b.1) && x) (no_bounds k c is) ∙ and_none (int_le b.0 i && int_le i b.1) ∙ sym (and_none (int_le b.0 c && int_le c b.1))
+within_inserted (suc k) b (d ∷ bs) c [] =
+    ap (λ x. (int_le d.0 c && int_le c d.1) && x) (no_subscripts k b bs) ∙ and_none (int_le d.0 c && int_le c d.1) ∙ sym (and_none (int_le b.0 c && int_le c b.1))
+within_inserted (suc k) b (d ∷ bs) c (i ∷ is) =
+    ap (λ x. (int_le d.0 i && int_le i d.1) && x) (within_inserted k b bs c is) ∙ and_turned (int_le d.0 i && int_le i d.1) (int_le b.0 c && int_le c b.1) (within bs is)

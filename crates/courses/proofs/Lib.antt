@@ -26,6 +26,8 @@ pub mod Weave_run
 pub mod Two_lines
 pub mod Served
 pub mod Turning
+pub mod Calls
+pub mod Column_calls
 pub mod Bounds
 pub mod Sequences
 pub mod Sampled

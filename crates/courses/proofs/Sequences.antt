@@ -1,6 +1,6 @@
 -- Courses one after another: the laws of and_then, and what it does to loop runs, to woven lines and to logs.
 use Rattle.std.proofs.Common.{◌≡◌, ℕ, suc, refl, ap, sym, ◌∙◌, List, [], ◌∷◌, ◌++◌, Bool, true, false, Option, Some, None}
-use Rattle.std.specs.Prelude.{is_some, if◌then◌else◌}
+use Rattle.std.specs.Prelude.{is_some}
 use mathlib.Core.Path.{fun_ext, ap₂}
 use Rattle.courses.specs.Element.{Element, Store, put, merged, blank}
 use Rattle.courses.specs.Ranges.{up_from}

@@ -1,5 +1,5 @@
 -- The turns of two parts add up, and a handler that keeps elements aside changes none.
-use Rattle.std.proofs.Common.{◌≡◌, ℕ, suc, ◌+◌, ap, ◌∙◌, List, [], ◌∷◌, ◌++◌, Some, None, arith}
+use Rattle.std.proofs.Common.{◌≡◌, ℕ, suc, ◌+◌, refl, ap, ◌∙◌, List, [], ◌∷◌, ◌++◌, Some, None, arith}
 use Rattle.std.proofs.Common.{Bool, true, false}
 use Rattle.courses.specs.Element.{Value, Element, Store, put, merged}
 use Rattle.courses.specs.Interaction.{Note, Own_reads, Own_writes, Turn, Event, Reads, Writes, Announces, Interaction, Done, Trap, Read, Write, Order, Announce, bind, Orders, answer_of, next_of, log_of, store_of}

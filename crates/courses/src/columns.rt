@@ -7,9 +7,10 @@ ghost use Rattle.courses.specs.Ranges.{wholes_from};
 ghost use Rattle.courses.specs.Interaction.{Interaction, Order, bind, Orders, store_of};
 ghost use Rattle.courses.specs.Renaming.{KeepsApart};
 ghost use Rattle.courses.specs.Course.{Sort, Answer, Course, Way, line, in_order};
+ghost use Rattle.courses.specs.Copying.{Callee, called};
 ghost use Rattle.courses.specs.Weaving.{IsApart, IsOrderly};
 ghost use Rattle.courses.specs.Plans.{Plan};
-ghost use Rattle.courses.specs.Columns.{Varying, varies, column, is_own, is_column, Knowledge, Knows, Lockstep, IsShared, AreColumns, Serves};
+ghost use Rattle.courses.specs.Columns.{Varying, varies, column, is_own, is_column, Knowledge, Knows, Lockstep, IsShared, AreColumns, CallsMatch, Serves};
 
 /// A column's elements are kept apart by their places in the wide variables, and each wide place is one column's.
 pub fn column_elements()
@@ -32,6 +33,11 @@ pub fn shared_parts()
 pub fn column_loops()
     ensures lockstep { (k : Sort) (vary : Varying) (low : ℤ) (own : Element → Bool) (answer : Answer k) (step : ℕ → Interaction (Unit {0})) (r rest : Interaction (Answer k)) → AreColumns vary low own answer step r rest → (know : Knowledge) → ((e : Element) (v : Value) → know e ≡ Some v → varies vary e ≡ false) → ((e : Element) → own e ≡ true → know e ≡ Some Undefined) → (n : ℕ) (c : ℤ) → is_column c (wholes_from low n) ≡ true → Lockstep vary (wholes_from low n) know know r (Order n (λ ks. in_order step ks rest)) }
     ensures apart { (k : Sort) (vary : Varying) (low : ℤ) (own : Element → Bool) (answer : Answer k) (step : ℕ → Interaction (Unit {0})) (r rest : Interaction (Answer k)) → AreColumns vary low own answer step r rest → IsApart own step }
+{}
+
+/// A call for all columns is in lock step with each column's call, where their bodies are, for any number of columns.
+pub fn column_calls()
+    ensures { (k l : Sort) (vary : Varying) (cols : List ℤ) (pre deep deep' mid post : Knowledge) (f f' : Callee k) (vs : List Value) (xs es xs' es' : List Element) → CallsMatch vary cols pre deep deep' mid f f' vs xs es xs' es' → (g g' : Answer k → Course l) → ((a : Answer k) → Lockstep vary cols mid post (line (g a)) (line (g' a))) → Lockstep vary cols pre post (line (called f vs xs es g)) (line (called f' vs xs' es' g')) }
 {}
 
 /// A course in lock step with the columns' course serves all columns, under every plan and every schedule, if it is

@@ -1,9 +1,10 @@
 //! Courses and their readings.
 
 ghost use Rattle.std.specs.Prelude.{◌≡◌, ℕ, List, [], ◌++◌};
-ghost use Rattle.courses.specs.Element.{Store};
+ghost use Rattle.courses.specs.Element.{Value, Element, Store};
 ghost use Rattle.courses.specs.Interaction.{bind, Orders, answer_of, next_of, store_of};
 ghost use Rattle.courses.specs.Course.{Sort, Answer, Course, Give, and_then, line, loop_runs, on_some};
+ghost use Rattle.courses.specs.Copying.{Callee, CallDoes};
 ghost use Rattle.courses.specs.Weaving.{IsFair, IsOrderly, AreApart, AllApart, WovenAlike, LinesAlike, woven_line};
 
 /// Going on with nothing changes nothing, and it doesn't matter how three courses are put together.
@@ -39,4 +40,11 @@ pub fn schedules()
 /// The same of the woven course as one line of accesses.
 pub fn woven_lines()
     ensures { (k : Sort) (q : Course k) → IsOrderly q → (ks : List ℕ) (o : Orders) → IsFair o → (s : Store) (j : ℕ) → LinesAlike q ks o s j }
+{}
+
+/// A call by copy: the callee's body runs from a store in which its own elements are undefined but for the values and
+/// copies that it gets; where it ends, its last values are copied back, all else that it owns is dropped, and the call
+/// goes on with its answer.
+pub fn calls_by_copy()
+    ensures { (k l : Sort) (f : Callee k) (vs : List Value) (xs es : List Element) (g : Answer k → Course l) (o : Orders) (s : Store) (j : ℕ) → CallDoes f vs xs es g o s j }
 {}

@@ -7,7 +7,8 @@ use crate::elements::{element_equality, single_writes};
 use crate::frames::{array_places, frames};
 use crate::orders::{fair_plans, law_of_orders, private_orders, weaving};
 use crate::readings::{
-    course_line, course_monad, courses_in_sequence, loop_runs_apart, schedules, woven_lines,
+    calls_by_copy, course_line, course_monad, courses_in_sequence, loop_runs_apart, schedules,
+    woven_lines,
 };
 use crate::samples::{lost_update, lost_update_inside};
 use crate::trees::{allowed_writes, kept_aside, locality, monad_laws, renaming, turns_add_up};
@@ -32,10 +33,12 @@ fn laws_return(rt: HostRuntime) {
     loop_runs_apart();
     schedules();
     woven_lines();
+    calls_by_copy();
     column_elements();
     columns_in_sequence();
     shared_parts();
     column_loops();
+    column_calls();
     columns_served();
     array_places();
     frames();
