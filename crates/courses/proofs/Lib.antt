@@ -28,6 +28,8 @@ pub mod Served
 pub mod Turning
 pub mod Calls
 pub mod Column_calls
+pub mod Sides
+pub mod Marked_columns
 pub mod Bounds
 pub mod Sequences
 pub mod Sampled

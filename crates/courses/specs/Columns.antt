@@ -1,14 +1,14 @@
 -- One column's interaction beside the interaction of all columns.
 use Rattle.std.specs.Prelude.{◌≡◌, ℕ, zero, suc, ℤ, pos, ◌+ℤ◌, List, [], ◌∷◌, Bool, true, false, ◌&&◌, ◌||◌, not, if◌then◌else◌, is_some, Option, Some, None}
 use Rattle.std.specs.Ordering.{int_eq}
-use Rattle.courses.specs.Element.{Value, Undefined, Element, Store, same_element, blank, merged}
+use Rattle.courses.specs.Element.{Value, Undefined, Whole, Element, Store, same_element, blank, merged}
 use Rattle.courses.specs.Interaction.{Interaction, Done, Trap, Read, Write, Order, Announce, Orders, answer_of, log_of, store_of}
 use Rattle.courses.specs.Logs.{others}
 use Rattle.courses.specs.Renaming.{renamed, view}
-use Rattle.courses.specs.Handlers.{Forgets, IsSettled}
+use Rattle.courses.specs.Handlers.{Forgets, IsSettled, hushed, given}
 use Rattle.courses.specs.Always.{May, Always, WritesOnly}
-use Rattle.courses.specs.Course.{Sort, Course, Way, line, loop_runs, on_some}
-use Rattle.courses.specs.Copying.{source, Callee, entered, returned}
+use Rattle.courses.specs.Course.{Sort, Course, Way, Normal, line, loop_runs, on_some}
+use Rattle.courses.specs.Copying.{among, source, Callee, entered, returned}
 use Rattle.courses.specs.Weaving.{IsFair, rising, AllApart, WovenAlike, LinesAlike}
 use Rattle.courses.specs.Plans.{Plan, orders_of}
 
@@ -151,3 +151,13 @@ pub record CallsMatch {k : Sort} (vary : Varying) (cols : List ℤ) (pre deep de
   pub enters : (s : Store) → Knows pre s → Knows deep (entered f' vs xs' s)
   pub returns : (s u : Store) → Knows pre s → Knows deep' u → Knows mid (returned f' es' s u)
   pub bodies : Lockstep vary cols deep deep' (line f.body) (line f'.body)
+
+-- the body of a marked loop with this loop variable and these private elements is, in the iteration of each column, the
+-- column's course on its elements
+pub record IsColumnBody (vary : Varying) (id : Element) (es : List Element) (q r : Course Way) : Type 0 where
+  pub private : (e : Element) → among (id ∷ es) e ≡ true → varies vary e ≡ false
+  pub sides : (c : ℤ) → hushed (given (same_element id) (Whole c) (line q)) ≡ hushed (renamed (column vary c) (line r))
+  pub spares : WritesOnly (λ e. not (same_element id e)) (line q)
+  pub writes : WritesOnly (λ e. varies vary e || among (id ∷ es) e) (line r)
+  pub restores : (e : Element) → among (id ∷ es) e ≡ true → (o : Orders) (s : Store) (j : ℕ) → s e ≡ Undefined → is_some (answer_of (line r) o s j) ≡ true → store_of (line r) o s j e ≡ Undefined
+  pub answers : AnswersOnly Normal (line r)

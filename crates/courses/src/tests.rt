@@ -1,7 +1,8 @@
 //! Each law is a call that does nothing and returns.
 
 use crate::columns::{
-    column_elements, column_loops, columns_in_sequence, columns_served, shared_parts,
+    column_elements, column_loops, columns_in_sequence, columns_served, marked_columns,
+    shared_parts,
 };
 use crate::elements::{element_equality, single_writes};
 use crate::frames::{array_places, frames};
@@ -38,6 +39,7 @@ fn laws_return(rt: HostRuntime) {
     columns_in_sequence();
     shared_parts();
     column_loops();
+    marked_columns();
     column_calls();
     columns_served();
     array_places();
