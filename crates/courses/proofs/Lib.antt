@@ -33,3 +33,4 @@ pub mod Marked_columns
 pub mod Bounds
 pub mod Sequences
 pub mod Sampled
+pub mod Sampled_columns

@@ -11,7 +11,7 @@ use crate::readings::{
     calls_by_copy, course_line, course_monad, courses_in_sequence, loop_runs_apart, schedules,
     woven_lines,
 };
-use crate::samples::{lost_update, lost_update_inside};
+use crate::samples::{columns_of_an_array, lost_update, lost_update_inside};
 use crate::trees::{allowed_writes, kept_aside, locality, monad_laws, renaming, turns_add_up};
 
 #[test]
@@ -46,4 +46,5 @@ fn laws_return(rt: HostRuntime) {
     frames();
     lost_update();
     lost_update_inside();
+    columns_of_an_array();
 }
