@@ -1,8 +1,8 @@
 //! Each law is a call that does nothing and returns.
 
 use crate::columns::{
-    column_elements, column_loops, columns_in_sequence, columns_served, marked_columns,
-    shared_parts,
+    column_calls, column_elements, column_loops, columns_in_sequence, columns_served,
+    marked_columns, shared_parts,
 };
 use crate::elements::{element_equality, single_writes};
 use crate::frames::{array_places, frames};
