@@ -82,6 +82,9 @@ rows_empty is (p ∷ ps) = place_appended (map (λ i. i ∷ p) is) (flat_map (λ
 pub places_has : (b : ℤ × ℤ) (bs : List (ℤ × ℤ)) (j : ℤ) (q : List ℤ) → is_place (places (b ∷ bs)) (j ∷ q) ≡ is_column j (wholes b.0 b.1) && is_place (places bs) q
 places_has b bs j q = rows_has (wholes b.0 b.1) (places bs) j q
 
+pub no_place : (b : ℤ × ℤ) (bs : List (ℤ × ℤ)) → is_place (places (b ∷ bs)) [] ≡ false
+no_place b bs = rows_empty (wholes b.0 b.1) (places bs)
+
 distinct_appended : (xs ys : List (List ℤ)) → DistinctPlaces xs → DistinctPlaces ys → ((q : List ℤ) → is_place xs q ≡ true → is_place ys q ≡ false) → DistinctPlaces (xs ++ ys)
 distinct_appended [] ys d e h = e
 distinct_appended (x ∷ xs) ys d e h =

@@ -87,7 +87,7 @@ given_run p w c (Order n f) o s j a h = absurd (false≢true h.0)
 given_run p w c (Announce u r) o s j a h =
     let t = given_run p w c r o s j a h.1 in record { answer = t.answer; next = t.next; store = t.store; kept = t.kept; log = t.log }
 
-own_put : (p : Element → Bool) (t s : Store) (e : Element) (v : Value) → p e ≡ true → merged p (put t e v) s ≡ put (merged p t s) e v
+pub own_put : (p : Element → Bool) (t s : Store) (e : Element) (v : Value) → p e ≡ true → merged p (put t e v) s ≡ put (merged p t s) e v
 unfolding merged put
 own_put p t s e v h = fun_ext (λ x. go x (same_element e x) (p x) refl refl)
   where
@@ -96,7 +96,7 @@ own_put p t s e v h = fun_ext (λ x. go x (same_element e x) (p x) refl refl)
     go x true false m n = absurd (false≢true (sym n ∙ ap p (sym (same_element-equal e x m)) ∙ h))
     go x false false m n = rw (n, m)
 
-other_put : (p : Element → Bool) (t s : Store) (e : Element) (v : Value) → p e ≡ false → merged p t (put s e v) ≡ put (merged p t s) e v
+pub other_put : (p : Element → Bool) (t s : Store) (e : Element) (v : Value) → p e ≡ false → merged p t (put s e v) ≡ put (merged p t s) e v
 unfolding merged put
 other_put p t s e v h = fun_ext (λ x. go x (same_element e x) (p x) refl refl)
   where

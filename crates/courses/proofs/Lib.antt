@@ -26,4 +26,11 @@ pub mod Weave_run
 pub mod Two_lines
 pub mod Served
 pub mod Turning
+pub mod Calls
+pub mod Column_calls
+pub mod Sides
+pub mod Marked_columns
+pub mod Bounds
+pub mod Sequences
 pub mod Sampled
+pub mod Sampled_columns

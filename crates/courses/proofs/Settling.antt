@@ -3,9 +3,11 @@ use Rattle.std.proofs.Common.{◌≡◌, ℕ, refl, ap, sym, ◌∙◌, List, []
 use Rattle.std.specs.Prelude.{if◌then◌else◌}
 use Rattle.std.proofs.lemmas.Bool.{false≢true}
 use Rattle.courses.specs.Element.{Value, Element, same_element, Store, put, nobody}
-use Rattle.courses.specs.Interaction.{Event, Reads, Writes, Announces, Interaction, Done, Trap, Read, Write, Order, Announce, Orders, answer_of, next_of, log_of, store_of}
+use Rattle.courses.specs.Interaction.{Event, Reads, Writes, Announces, Interaction, Done, Trap, Read, Write, Order, Announce, bind, Orders, answer_of, next_of, log_of, store_of}
 use Rattle.courses.specs.Logs.{is_read, is_written, Clear, others}
 use Rattle.courses.specs.Handlers.{IsSettled, keeping}
+use Rattle.courses.specs.Course.{Sort, Course, line}
+use Rattle.courses.specs.Copying.{wiped}
 use Rattle.courses.proofs.Stores.{same_element-equal}
 
 -- the orders don't matter
@@ -94,3 +96,15 @@ clear_touches ts us ts' us' p q c e =
     let ru = sym (others_read nobody us e refl) ∙ ap (λ l. is_read l e) q in
     let wu = sym (others_written nobody us e refl) ∙ ap (λ l. is_written l e) q in
     (λ h. rw (ru, wu) ((c e).0 (sym wt ∙ h)), λ h. rw (rt, wt) ((c e).1 (sym wu ∙ h)))
+
+pub settled_bind : {A B : Type 0} (r : Interaction A) (k : A → Interaction B) → IsSettled r → ((a : A) → IsSettled (k a)) → IsSettled (bind r k)
+settled_bind (Done a) k h g = g a
+settled_bind Trap k h g = tt
+settled_bind (Read e f) k h g = λ v. settled_bind (f v) k (h v) g
+settled_bind (Write e v r) k h g = settled_bind r k h g
+settled_bind (Order n f) k h g = absurd h
+settled_bind (Announce u r) k h g = settled_bind r k h g
+
+pub settled_wiped : {k : Sort} (es : List Element) (q : Course k) → IsSettled (line q) → IsSettled (line (wiped es q))
+settled_wiped [] q h = h
+settled_wiped (e ∷ es) q h = settled_wiped es q h

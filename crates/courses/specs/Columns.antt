@@ -1,13 +1,14 @@
 -- One column's interaction beside the interaction of all columns.
 use Rattle.std.specs.Prelude.{◌≡◌, ℕ, zero, suc, ℤ, pos, ◌+ℤ◌, List, [], ◌∷◌, Bool, true, false, ◌&&◌, ◌||◌, not, if◌then◌else◌, is_some, Option, Some, None}
 use Rattle.std.specs.Ordering.{int_eq}
-use Rattle.courses.specs.Element.{Value, Undefined, Element, Store, same_element, blank, merged}
+use Rattle.courses.specs.Element.{Value, Undefined, Whole, Element, Store, same_element, blank, merged}
 use Rattle.courses.specs.Interaction.{Interaction, Done, Trap, Read, Write, Order, Announce, Orders, answer_of, log_of, store_of}
 use Rattle.courses.specs.Logs.{others}
 use Rattle.courses.specs.Renaming.{renamed, view}
-use Rattle.courses.specs.Handlers.{Forgets, IsSettled}
+use Rattle.courses.specs.Handlers.{Forgets, IsSettled, hushed, given}
 use Rattle.courses.specs.Always.{May, Always, WritesOnly}
-use Rattle.courses.specs.Course.{Course, Way, line, loop_runs}
+use Rattle.courses.specs.Course.{Sort, Course, Way, Normal, line, loop_runs, on_some}
+use Rattle.courses.specs.Copying.{among, source, Callee, entered, returned}
 use Rattle.courses.specs.Weaving.{IsFair, rising, AllApart, WovenAlike, LinesAlike}
 use Rattle.courses.specs.Plans.{Plan, orders_of}
 
@@ -128,3 +129,35 @@ pub record AreColumns {A : Type 0} (vary : Varying) (low : ℤ) (own : Element �
   pub answers : AnswersOnly answer r
   -- iteration k, where what is its own is undefined
   pub runs : (o : Orders) (s : Store) (j k : ℕ) → ((e : Element) → own e ≡ true → s e ≡ Undefined) → RunsColumn own (step k) (renamed (column vary (low +ℤ pos k)) r) o s j
+
+-- copies in the wide variables bring to each column's elements what the column's own copies bring, whatever their order
+abbrev pub CopiesMatch : Varying → List ℤ → List Element → List Element → List Element → List Element → Type 0
+CopiesMatch vary cols ds xs ds' xs' =
+    (c : ℤ) (e : Element) → is_column c cols ≡ true → source ds' xs' (column vary c e) ≡ on_some (source ds xs e) None (λ x. Some (column vary c x))
+
+abbrev pub AllShared : Varying → List Element → Type 0
+AllShared vary [] = Unit {0}
+AllShared vary (e ∷ es) = (varies vary e ≡ false) × AllShared vary es
+
+-- a call of f' for all columns beside each column's call of f: the bodies are in lock step, from deep to deep'
+pub record CallsMatch {k : Sort} (vary : Varying) (cols : List ℤ) (pre deep deep' mid : Knowledge) (f f' : Callee k) (vs : List Value) (xs es xs' es' : List Element) : Type 0 where
+  -- a unit's elements are told by their names
+  pub owns : (e : Element) → f'.owns e ≡ f.owns e
+  pub own_columns : (c : ℤ) (e : Element) → f.owns (column vary c e) ≡ f.owns e
+  pub given : f'.given ≡ f.given
+  pub given_shared : AllShared vary f.given
+  pub takes : CopiesMatch vary cols f.takes xs f'.takes xs'
+  pub leaves : CopiesMatch vary cols es f.leaves es' f'.leaves
+  pub enters : (s : Store) → Knows pre s → Knows deep (entered f' vs xs' s)
+  pub returns : (s u : Store) → Knows pre s → Knows deep' u → Knows mid (returned f' es' s u)
+  pub bodies : Lockstep vary cols deep deep' (line f.body) (line f'.body)
+
+-- the body of a marked loop with this loop variable and these private elements is, in the iteration of each column, the
+-- column's course on its elements
+pub record IsColumnBody (vary : Varying) (id : Element) (es : List Element) (q r : Course Way) : Type 0 where
+  pub private : (e : Element) → among (id ∷ es) e ≡ true → varies vary e ≡ false
+  pub sides : (c : ℤ) → hushed (given (same_element id) (Whole c) (line q)) ≡ hushed (renamed (column vary c) (line r))
+  pub spares : WritesOnly (λ e. not (same_element id e)) (line q)
+  pub writes : WritesOnly (λ e. varies vary e || among (id ∷ es) e) (line r)
+  pub restores : (e : Element) → among (id ∷ es) e ≡ true → (o : Orders) (s : Store) (j : ℕ) → s e ≡ Undefined → is_some (answer_of (line r) o s j) ≡ true → store_of (line r) o s j e ≡ Undefined
+  pub answers : AnswersOnly Normal (line r)

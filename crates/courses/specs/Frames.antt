@@ -1,5 +1,5 @@
 -- Frames: stores of declared variables as finite maps.
-use Rattle.std.specs.Prelude.{◌≡◌, ℕ, ℤ, List, [], ◌∷◌, map, length, flat_map, Bool, false, ◌&&◌, ◌||◌, if◌then◌else◌}
+use Rattle.std.specs.Prelude.{◌≡◌, ℕ, zero, suc, ℤ, List, [], ◌∷◌, map, length, flat_map, Bool, true, false, ◌&&◌, ◌||◌, int_le, if◌then◌else◌}
 use Rattle.courses.specs.Element.{Value, Undefined, Element, same_name, same_index, Store}
 use Rattle.courses.specs.Ranges.{wholes}
 
@@ -14,6 +14,13 @@ pub record Entry : Type 0 where
 abbrev pub places : List (ℤ × ℤ) → List (List ℤ)
 places [] = [] ∷ []
 places (b ∷ bs) = flat_map (λ rest. map (λ i. i ∷ rest) (wholes b.0 b.1)) (places bs)
+
+-- there is one subscript for each dimension, within its bounds
+abbrev pub within : List (ℤ × ℤ) → List ℤ → Bool
+within [] [] = true
+within [] (i ∷ is) = false
+within (b ∷ bs) [] = false
+within (b ∷ bs) (i ∷ is) = (int_le b.0 i && int_le i b.1) && within bs is
 
 -- the value beside these subscripts
 abbrev pub found : List (List ℤ) → List Value → List ℤ → Value
@@ -52,3 +59,9 @@ has_name (f ∷ fs) home name = is_named f home name || has_name fs home name
 abbrev pub IsFrame : List Entry → Type 0
 IsFrame [] = Unit {0}
 IsFrame (f ∷ fs) = (has_name fs f.home f.name ≡ false) × (length f.items ≡ length (places f.bounds)) × IsFrame fs
+
+-- the bounds with those of one more dimension at this place, or behind them all where there are fewer
+abbrev pub bounds_inserted : ℕ → ℤ × ℤ → List (ℤ × ℤ) → List (ℤ × ℤ)
+bounds_inserted zero b bs = b ∷ bs
+bounds_inserted (suc k) b [] = b ∷ []
+bounds_inserted (suc k) b (d ∷ bs) = d ∷ bounds_inserted k b bs

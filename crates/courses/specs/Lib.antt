@@ -9,6 +9,7 @@ pub mod Interleaving
 pub mod Course
 pub mod Always
 pub mod Copying
+pub mod Marked
 pub mod Weaving
 pub mod Private
 pub mod Plans

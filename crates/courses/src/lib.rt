@@ -13,4 +13,6 @@ pub mod frames;
 pub mod orders;
 pub mod readings;
 pub mod samples;
+#[cfg(test)]
+mod tests;
 pub mod trees;

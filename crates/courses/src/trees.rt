@@ -1,11 +1,11 @@
 //! Interaction trees.
 
 ghost use Rattle.std.specs.Prelude.{◌≡◌, ◌+◌, ℕ, Bool, true, false, Some, None};
-ghost use Rattle.courses.specs.Element.{Element, Store};
+ghost use Rattle.courses.specs.Element.{Element, Store, merged};
 ghost use Rattle.courses.specs.Interaction.{Interaction, Done, bind, Orders, answer_of, next_of, log_of, store_of};
 ghost use Rattle.courses.specs.Logs.{Agree, Alike, is_written, turns};
 ghost use Rattle.courses.specs.Renaming.{KeepsApart, RenamedRun};
-ghost use Rattle.courses.specs.Handlers.{KeptAside};
+ghost use Rattle.courses.specs.Handlers.{KeptAside, keeping};
 ghost use Rattle.courses.specs.Always.{May, Always};
 ghost use Rattle.courses.specs.Course.{Sort, Answer};
 
@@ -15,10 +15,12 @@ pub fn monad_laws()
     ensures associative { (k l m : Sort) (r : Interaction (Answer k)) (f : Answer k → Interaction (Answer l)) (g : Answer l → Interaction (Answer m)) → bind (bind r f) g ≡ bind r (λ a. bind (f a) g) }
 {}
 
-/// The turns of two parts add up where the first ends, and are those of the first where it traps.
+/// The turns of two parts add up where the first ends, and are those of the first where it traps; a handler that keeps
+/// elements aside changes none.
 pub fn turns_add_up()
     ensures ends { (k l : Sort) (r : Interaction (Answer k)) (f : Answer k → Interaction (Answer l)) (a : Answer k) (o : Orders) (s : Store) (j : ℕ) → answer_of r o s j ≡ Some a → turns (log_of (bind r f) o s j) ≡ turns (log_of r o s j) + turns (log_of (f a) o (store_of r o s j) (next_of r o s j)) }
     ensures traps { (k l : Sort) (r : Interaction (Answer k)) (f : Answer k → Interaction (Answer l)) (o : Orders) (s : Store) (j : ℕ) → answer_of r o s j ≡ None → turns (log_of (bind r f) o s j) ≡ turns (log_of r o s j) }
+    ensures kept { (k : Sort) (p : Element → Bool) (t : Store) (r : Interaction (Answer k)) (o : Orders) (s : Store) (j : ℕ) → turns (log_of (keeping p t r) o s j) ≡ turns (log_of r o (merged p t s) j) }
 {}
 
 /// Locality: from a store that agrees on what is read, a tree answers, logs and writes the same; and what it doesn't
