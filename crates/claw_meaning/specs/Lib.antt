@@ -18,3 +18,4 @@ pub mod Erasure
 pub mod Spread
 pub mod SmallUnits
 pub mod SmallRuns
+pub mod Laws

@@ -3,6 +3,8 @@
 //! The functions here run nothing. Each carries a law or a computed row in its contract.
 #![tactic(auto)]
 
+mod laws;
 mod rows;
 
+pub use laws::{frames_are_stores, orderly_runs_agree, runs_are_apart, runs_are_local, runs_can_move};
 pub use rows::{lost_update, scalars_in_columns, small_runs};
