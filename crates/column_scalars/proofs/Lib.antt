@@ -16,3 +16,9 @@ pub mod WideFrames
 pub mod Slices
 pub mod UnitRuns
 pub mod Keeping
+pub mod Listed
+pub mod Written
+pub mod Reaching
+pub mod Referring
+pub mod Erasing
+pub mod Spreading

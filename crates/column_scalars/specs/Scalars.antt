@@ -11,6 +11,7 @@ use Rattle.fort_tree.specs.declared.unit.Intent.{Intent}
 use Rattle.fort_tree.specs.declared.unit.Intent.TheVariants.{In, Out, InOut}
 use Rattle.fort_tree.specs.declared.stmt.DirectiveWord.TheVariants.{Define, Parallelize}
 use Rattle.fort_tree.specs.Intrinsic.{intrinsic_named}
+use Rattle.claw_meaning.specs.Interface.{is_fresh}
 use Rattle.claw_meaning.specs.Syntax.{Text, Expr, Numeral, Boolean, Name, Reference, Signed, Binary, Paren, Subscripts, No_more, At, Dimension, Decl, Directive, Head, Stmt, Assign, If, Do, Return, Stmts, Done, Then, Arms, No_arm, Arm, Otherwise, Nothing_else, Unit, Program, Item, A_unit}
 
 -- The source
@@ -86,11 +87,13 @@ abbrev pub NoIntrinsics : List Text → Type 0
 NoIntrinsics [] = ⊤
 NoIntrinsics (x ∷ xs) = (intrinsic_named x ≡ None) × NoIntrinsics xs
 
--- each dummy is declared once and stands once in `data`, no other name does; the dimension and its upper bound are no
--- dummies, not the unit's name, and differ; assignments name dummies alone
+-- each dummy is declared once and stands once in `data`, no other name does; a dummy has no intrinsic's name and none that
+-- a compiler made; the dimension and its upper bound are no dummies, not the unit's name, and differ; assignments name
+-- dummies alone
 pub record IsScalars (u : Scalars) : Type 0 where
   pub dummies : Distinct u.dummies
   pub plain : NoIntrinsics u.dummies
+  pub own : (x : Text) → Contains u.dummies x → is_fresh x ≡ false
   pub declared : Distinct (map (λ d. d.0) u.declared)
   pub all_declared : (x : Text) → Contains u.dummies x → Contains (map (λ d. d.0) u.declared) x
   pub declared_dummies : (x : Text) → Contains (map (λ d. d.0) u.declared) x → Contains u.dummies x

@@ -2,5 +2,7 @@
 #![tactic(auto)]
 
 mod laws;
+mod made;
 
 pub use laws::{does_as_modelled, keeps_columns};
+pub use made::made_for_all_columns;

@@ -1,0 +1,66 @@
+-- The declarations of the program for all columns are those of the widened source, in the written order.
+use Rattle.std.proofs.Common.{◌≡◌, refl, ap, sym, ◌∙◌, List, [], ◌∷◌, ◌++◌, append-nil, Contains, map, ◌&&◌, not}
+use Rattle.std.specs.List.{filter}
+use mathlib.Core.Path.{ap₂}
+use Rattle.fort_tree.specs.declared.unit.Intent.{Intent}
+use Rattle.claw_meaning.specs.Syntax.{Text}
+use Rattle.claw_meaning.specs.Interface as interface
+use Rattle.column_scalars.specs.Scalars.{Scalars, IsScalars, dummy_decl, decls_of, wide_decl, wide_decls, source_unit, wide_unit}
+use Rattle.column_scalars.proofs.MemberCases.{contains_here, contains_later, listed_here}
+use Rattle.column_scalars.proofs.Naming.{names, upper_name}
+use Rattle.column_scalars.proofs.Listed.{widened, first_place, not_shared}
+
+-- these are declarations of dummies
+abbrev pub OfDummies : Scalars → List (Text × Intent) → Type 0
+OfDummies u ds = (x : Text) → Contains (names ds) x → Contains u.dummies x
+
+pub of_first : (u : Scalars) (d : Text × Intent) (ds : List (Text × Intent)) → OfDummies u (d ∷ ds) → Contains u.dummies d.0
+of_first u d ds h = h d.0 (contains_here d.0 (names ds))
+
+pub of_others : (u : Scalars) (d : Text × Intent) (ds : List (Text × Intent)) → OfDummies u (d ∷ ds) → OfDummies u ds
+of_others u d ds h x t = h x (contains_later d.0 (names ds) x t)
+
+pub no_constants : (ds : List (Text × Intent)) → filter interface.is_constant_decl (decls_of ds) ≡ []
+no_constants [] = refl
+no_constants (d ∷ ds) = no_constants ds
+
+pub no_shared : (u : Scalars) → IsScalars u → (ds : List (Text × Intent)) → OfDummies u ds → filter (interface.is_shared_decl (source_unit u)) (decls_of ds) ≡ []
+no_shared u w [] h = refl
+no_shared u w (d ∷ ds) h = rw (not_shared u w d.0 d.1 (of_first u d ds h)) (no_shared u w ds (of_others u d ds h))
+
+pub all_others : (u : Scalars) → IsScalars u → (ds : List (Text × Intent)) → OfDummies u ds → filter (λ d. interface.is_other_decl (source_unit u) d && not (interface.is_fresh d.name)) (decls_of ds) ≡ decls_of ds
+all_others u w [] h = refl
+all_others u w (d ∷ ds) h =
+    let t = of_first u d ds h in
+    rw (not_shared u w d.0 d.1 t, w.own d.0 t) (ap (λ l. dummy_decl d.0 d.1 ∷ l) (all_others u w ds (of_others u d ds h)))
+
+pub none_fresh : (u : Scalars) → IsScalars u → (ds : List (Text × Intent)) → OfDummies u ds → filter (λ d. interface.is_other_decl (source_unit u) d && interface.is_fresh d.name) (decls_of ds) ≡ []
+none_fresh u w [] h = refl
+none_fresh u w (d ∷ ds) h =
+    let t = of_first u d ds h in
+    rw (not_shared u w d.0 d.1 t, w.own d.0 t) (none_fresh u w ds (of_others u d ds h))
+
+-- each gains the dimension
+one_wide : (u : Scalars) → IsScalars u → (x : Text) (intent : Intent) → Contains u.dummies x → interface.wide_decl (widened u) (dummy_decl x intent) ≡ wide_decl u.lower u.upper (x, intent)
+one_wide u w x intent t = rw (listed_here u.dummies x t, first_place u w x t) refl
+
+all_wide : (u : Scalars) → IsScalars u → (ds : List (Text × Intent)) → OfDummies u ds → map (interface.wide_decl (widened u)) (decls_of ds) ≡ wide_decls u.lower u.upper ds
+all_wide u w [] h = refl
+all_wide u w (d ∷ ds) h = ap₂ (λ a b. a ∷ b) (one_wide u w d.0 d.1 (of_first u d ds h)) (all_wide u w ds (of_others u d ds h))
+
+others_wide : (u : Scalars) → IsScalars u → (ds : List (Text × Intent)) → OfDummies u ds →
+    map (interface.wide_decl (widened u)) (filter (λ d. interface.is_other_decl (source_unit u) d && not (interface.is_fresh d.name)) (decls_of ds))
+    ++ map (interface.wide_decl (widened u)) (filter (λ d. interface.is_other_decl (source_unit u) d && interface.is_fresh d.name) (decls_of ds))
+    ≡ wide_decls u.lower u.upper ds
+others_wide u w ds h =
+    (λ t. map (interface.wide_decl (widened u)) (all_others u w ds h t) ++ map (interface.wide_decl (widened u)) (none_fresh u w ds h t))
+    ∙ append-nil (map (interface.wide_decl (widened u)) (decls_of ds)) ∙ all_wide u w ds h
+
+groups : (u : Scalars) → IsScalars u → interface.written_decls (source_unit u) (widened u) ≡ (wide_unit u).decls
+groups u w =
+    λ t. no_constants u.declared t
+    ++ ((no_shared u w u.declared w.declared_dummies t ++ interface.added_decl ((upper_name u w).added t))
+    ++ (others_wide u w u.declared w.declared_dummies t ++ interface.id_decl (source_unit u) (widened u)))
+
+pub decls_written : (u : Scalars) → IsScalars u → (wide_unit u).decls ≡ interface.written_decls (source_unit u) (widened u)
+decls_written u w = sym (groups u w)
