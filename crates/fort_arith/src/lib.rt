@@ -1,8 +1,20 @@
 //! Exact arithmetic of whole-number Fortran.
+//!
+//! The four INTEGER kinds hold the signed numbers of 8, 16, 32 and 64 bits. Each operation is taken in the whole numbers;
+//! it has a value exactly where the exact value exists and is in the kind, and else the run traps, which is `None` here.
+//! Nothing takes memory.
 #![tactic(auto)]
 
+pub mod intrinsics;
 pub mod kind;
+pub mod laws;
 pub mod op;
+pub mod operators;
+mod power;
+pub mod range;
 
+pub use intrinsics::intrinsic;
 pub use kind::Kind;
 pub use op::{Intrinsic, Op};
+pub use operators::{apply, compare};
+pub use range::{Limits, fit, holds, limits_of};
