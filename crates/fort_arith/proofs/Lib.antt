@@ -1,3 +1,5 @@
 pub mod Whole
 pub mod Powers
 pub mod Ranges
+pub mod Reciprocals
+pub mod Remainders

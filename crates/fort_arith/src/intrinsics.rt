@@ -51,8 +51,15 @@ fn remainder(a: i64, p: i64) -> Option<i64>
 fn modulo(a: i64, p: i64) -> Option<i64>
     ensures { result ≡ modulo_of a p }
 {
-    let rest = remainder(a, p)?;
-    Some(if rest != 0 && (rest < 0) != (p < 0) { rest + p } else { rest })
+    if p == 0 {
+        return None;
+    }
+    let rest = a.wrapping_rem(p);
+    if rest == 0 || (rest < 0) == (p < 0) {
+        Some(rest)
+    } else {
+        Some(rest + p)
+    }
 }
 
 /// |a| with the sign of b as a number of kind 8: `None` exactly where it isn't one.
