@@ -3,3 +3,4 @@ pub mod Powers
 pub mod Ranges
 pub mod Reciprocals
 pub mod Remainders
+pub mod Arguments

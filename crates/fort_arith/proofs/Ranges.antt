@@ -48,3 +48,11 @@ fitted-fitted kind v = by (in_kind I8 v) (in_kind kind v) refl refl
 pub fitted_asked : (r : Option ℤ) (P : Type 0) (v : ℤ) → SomeIff r P v → (P → FitsSigned w64 v) → (FitsSigned w64 v → P) → r ≡ fitted I8 v
 fitted_asked None P v h to from = fitted_checked None v (λ f. h (from f))
 fitted_asked (Some x) P v h to from = fitted_checked (Some x) v (to h.0, h.1)
+
+pub narrowed : (kind : Kind) (o : Option ℤ) → option_and_then (fitted kind) (option_and_then (fitted I8) o) ≡ option_and_then (fitted kind) o
+narrowed kind None = refl
+narrowed kind (Some v) = fitted-fitted kind v
+
+-- a number of 64 bits is one of kind 8
+pub fitted_whole : (v : ℤ) → FitsSigned w64 v → Some v ≡ fitted I8 v
+fitted_whole v f = fitted_checked (Some v) v (f, refl)

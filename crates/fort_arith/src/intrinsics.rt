@@ -4,7 +4,7 @@ ghost use Rattle.std.specs.List.{fold};
 ghost use Rattle.std.specs.Option.{option_and_then};
 ghost use Rattle.fort_arith.specs.declared.kind.Kind.TheVariants.{I8};
 ghost use Rattle.fort_arith.specs.Range.{is_whole, fitted};
-ghost use Rattle.fort_arith.specs.Intrinsics.{takes, absolute as absolute_of, remainder as remainder_of, modulo as modulo_of, with_sign as with_sign_of, intrinsic_applied};
+ghost use Rattle.fort_arith.specs.Intrinsics.{takes, remainder as remainder_of, modulo as modulo_of, with_sign as with_sign_of, exact_intrinsic, intrinsic_applied};
 
 use crate::range::fit;
 use crate::{Intrinsic, Kind};
@@ -16,40 +16,56 @@ pub fn intrinsic(which: Intrinsic, kind: Kind, args: &[i64]) -> Option<i64>
     requires whole { IsTrue (is_whole kind) }
     ensures { result ≡ intrinsic_applied which kind args.now }
 {
-    let exact = match (which, args) {
-        (Intrinsic::Abs, [a]) => a.checked_abs(),
-        (Intrinsic::Max, [first, rest @ ..]) => Some(greatest_of(*first, rest)),
-        (Intrinsic::Min, [first, rest @ ..]) => Some(least_of(*first, rest)),
-        (Intrinsic::Mod, [a, p]) => remainder(*a, *p),
-        (Intrinsic::Modulo, [a, p]) => modulo(*a, *p),
-        (Intrinsic::Sign, [a, b]) => with_sign(*a, *b),
+    fit(kind, exact(which, args)?)
+}
+
+/// The exact value of a reference, as a number of kind 8.
+#[tactic(auto, unfolding(crate::specs::Intrinsics::takes))]
+fn exact(which: Intrinsic, args: &[i64]) -> Option<i64>
+    requires takes { IsTrue (takes which (length args.now)) }
+    ensures { result ≡ option_and_then (fitted I8) (exact_intrinsic which args.now) }
+{
+    match which {
+        Intrinsic::Abs => args[0].checked_abs(),
+        Intrinsic::Max => Some(greatest_of(args[0], &args[1..])),
+        Intrinsic::Min => Some(least_of(args[0], &args[1..])),
+        Intrinsic::Mod => remainder(args[0], args[1]),
+        Intrinsic::Modulo => modulo(args[0], args[1]),
+        Intrinsic::Sign => with_sign(args[0], args[1]),
         _ => unreachable!(),
-    };
-    fit(kind, exact?)
+    }
 }
 
 fn greatest_of(first: i64, rest: &[i64]) -> i64
     ensures { result ≡ fold int_max first rest.now }
 {
-    rest.iter().fold(first, |greatest, a| greatest.max(*a))
+    let mut greatest = first;
+    for a in rest {
+        greatest = greatest.max(*a);
+    }
+    greatest
 }
 
 fn least_of(first: i64, rest: &[i64]) -> i64
     ensures { result ≡ fold int_min first rest.now }
 {
-    rest.iter().fold(first, |least, a| least.min(*a))
+    let mut least = first;
+    for a in rest {
+        least = least.min(*a);
+    }
+    least
 }
 
 /// What a truncating division leaves, with the sign of a: `None` exactly where p is zero.
 fn remainder(a: i64, p: i64) -> Option<i64>
-    ensures { result ≡ remainder_of a p }
+    ensures { result ≡ option_and_then (fitted I8) (remainder_of a p) }
 {
     if p == 0 { None } else { Some(a.wrapping_rem(p)) }
 }
 
 /// The remainder with the sign of p: `None` exactly where p is zero.
 fn modulo(a: i64, p: i64) -> Option<i64>
-    ensures { result ≡ modulo_of a p }
+    ensures { result ≡ option_and_then (fitted I8) (modulo_of a p) }
 {
     if p == 0 {
         return None;

@@ -1,6 +1,8 @@
 ghost use Rattle.std.specs.Prelude.{◌≡◌, IsTrue};
-ghost use Rattle.fort_arith.specs.Range.{is_whole};
-ghost use Rattle.fort_arith.specs.Operators.{is_arithmetic, is_relation, applied, compared};
+ghost use Rattle.fort_arith.specs.Range.{is_whole, fitted};
+ghost use Rattle.fort_arith.specs.declared.kind.Kind.TheVariants.{I8};
+ghost use Rattle.std.specs.Option.{option_and_then};
+ghost use Rattle.fort_arith.specs.Operators.{is_arithmetic, is_relation, exact as exact_of, applied, compared};
 
 use crate::power::{exact_power, quotient};
 use crate::range::fit;
@@ -30,13 +32,21 @@ pub fn apply(op: Op, kind: Kind, a: i64, b: i64) -> Option<i64>
     requires whole { IsTrue (is_whole kind) }
     ensures { result ≡ applied op kind a b }
 {
-    let exact = match op {
+    fit(kind, exact(op, a, b)?)
+}
+
+/// The exact value of an arithmetic operation, as a number of kind 8.
+#[tactic(auto, unfolding(crate::specs::Operators::is_arithmetic))]
+fn exact(op: Op, a: i64, b: i64) -> Option<i64>
+    requires arithmetic { IsTrue (is_arithmetic op) }
+    ensures { result ≡ option_and_then (fitted I8) (exact_of op a b) }
+{
+    match op {
         Op::Pow => exact_power(a, b),
         Op::Mul => a.checked_mul(b),
         Op::Div => quotient(a, b),
         Op::Add => a.checked_add(b),
         Op::Sub => a.checked_sub(b),
         _ => unreachable!(),
-    };
-    fit(kind, exact?)
+    }
 }

@@ -2,6 +2,7 @@ use Rattle.std.proofs.Common.{◌≡◌, ℤ, pos, negsuc, zero, suc, Some, None
 use Rattle.std.specs.Prelude.{◌≢◌, ◌⊎◌, int_rem, int_lt}
 use Rattle.std.proofs.lemmas.Int.{to_z-of_z, ints}
 use Rattle.fort_arith.specs.Intrinsics.{modulo}
+use Rattle.fort_arith.proofs.Ranges.{fitted_whole}
 use Rattle.fort_arith.proofs.Remainders.{kept, shifted, alike, unlike, sum_fits}
 use Rattle.fort_arith.proofs.intrinsics.modulo.Goals.{then-rest-eq0, else-rest-eq0}
 use Rattle.fort_arith.proofs.intrinsics.modulo.Goals as goal
@@ -25,7 +26,7 @@ returns-then-rest-p c =
           then-rest-eq0 w ↦ inl (omega (arith, ints, w.if-rest-eq0))
         | else-rest-eq0 w ↦ inr (let tested = simp to_z-of_z at w.value-is in alike _ _ (sym tested ∙ c.if-rest-p.true))
         ] in
-    rw (to_z-of_z w64 rest rest_fits) (sym (kept c.args.a c.args.p rest divides rest_is keeps))
+    rw (to_z-of_z w64 rest rest_fits, kept c.args.a c.args.p rest divides rest_is keeps) (fitted_whole rest rest_fits)
 
 pub returns-else-rest-p : goal.returns-else-rest-p
 returns-else-rest-p c =
@@ -41,4 +42,4 @@ returns-else-rest-p c =
         | else-rest-eq0 w ↦ (λ e. w.if-rest-eq0.false (ap (of_z w64) e), let tested = simp to_z-of_z at w.value-is in unlike _ _ (sym tested ∙ c.if-rest-p.false))
         ] in
     let whole_fits : FitsSigned w64 (rest +ℤ c.args.p) = sum_fits rest c.args.p rest_fits p_fits shifts.1 in
-    rw (to_z-of_z w64 rest rest_fits, to_z-of_z w64 c.args.p p_fits, to_z-of_z w64 (rest +ℤ c.args.p) whole_fits) (sym (shifted c.args.a c.args.p rest divides rest_is shifts.0 shifts.1))
+    rw (to_z-of_z w64 rest rest_fits, to_z-of_z w64 c.args.p p_fits, to_z-of_z w64 (rest +ℤ c.args.p) whole_fits, shifted c.args.a c.args.p rest divides rest_is shifts.0 shifts.1) (fitted_whole _ whole_fits)

@@ -2,6 +2,7 @@ use Rattle.std.proofs.Common.{◌≡◌, ℤ, pos, negsuc, zero, suc, Some, None
 use Rattle.std.specs.Prelude.{◌≢◌, int_rem}
 use Rattle.std.proofs.lemmas.Int.{to_z-of_z, ints}
 use Rattle.fort_arith.specs.Intrinsics.{remainder}
+use Rattle.fort_arith.proofs.Ranges.{fitted_whole}
 use Rattle.fort_arith.proofs.intrinsics.remainder.Goals as goal
 
 divided : (a p : ℤ) → p ≢ pos 0 → remainder a p ≡ Some (int_rem a p)
@@ -22,4 +23,5 @@ returns-else-p-eq0 c =
     let p_fits : FitsSigned w64 c.args.p = c.ranges.p in
     let rest_fits : FitsSigned w64 c.wrapping_rem.result = record { sfits = c.wrapping_rem.type_inv } in
     let rest_is = simp to_z-of_z at c.wrapping_rem.ensures in
-    rw (to_z-of_z w64 c.wrapping_rem.result rest_fits) (ap Some rest_is ∙ sym (divided c.args.a c.args.p (λ e. c.if-p-eq0.false (ap (of_z w64) e))))
+    let divides : c.args.p ≢ pos 0 = λ e. c.if-p-eq0.false (ap (of_z w64) e) in
+    rw (to_z-of_z w64 c.wrapping_rem.result rest_fits, divided c.args.a c.args.p divides, ← rest_is) (fitted_whole _ rest_fits)
