@@ -4,3 +4,4 @@ pub mod Ranges
 pub mod Reciprocals
 pub mod Remainders
 pub mod Arguments
+pub mod Division
