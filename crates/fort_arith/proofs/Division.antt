@@ -60,9 +60,10 @@ rem_beneath (pos m) b h = let e = mod-le m (unsigned_abs b) in omega (arith, int
 rem_beneath (negsuc m) b h = omega (arith, ints)
 
 truncated : (a b : ℤ) → b ≢ pos 0 → Truncates a b (int_div a b) (int_rem a b)
-truncated a b some =
-    (record { whole = sym (quot-rem a b) },
-     record { smaller = rem_below a b (some_size b some); above = rem_above a b; below = rem_beneath a b })
+truncated a b some = (
+  record { whole = sym (quot-rem a b) },
+  record { smaller = rem_below a b (some_size b some); above = rem_above a b; below = rem_beneath a b },
+)
 
 truncations_near : (a b r r' : ℤ) → HasSignOfDividend a b r → HasSignOfDividend a b r' → unsigned_abs (r' -ℤ r) < unsigned_abs b
 truncations_near (pos m) b r r' h h' = let up : pos 0 ≤ℤ pos m = omega (arith, ints) in both_above r r' (unsigned_abs b) h.smaller h'.smaller (h.above up) (h'.above up)

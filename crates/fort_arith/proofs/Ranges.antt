@@ -8,20 +8,20 @@ use Rattle.fort_arith.specs.declared.kind.Kind.TheVariants.{I1, I2, I4, I8, Logi
 use Rattle.fort_arith.specs.Range.{is_whole, least, greatest, in_kind, fitted}
 
 pub widest_has : (v : ℤ) → FitsSigned w64 v → in_kind I8 v ≡ true
-unfolding is_whole least greatest in_kind
+unfolding least greatest in_kind
 widest_has v f = grind (arith, ints)
 
 pub widest_lacks : (v : ℤ) → ¬ FitsSigned w64 v → in_kind I8 v ≡ false
-unfolding is_whole least greatest in_kind
+unfolding least greatest in_kind
 widest_lacks v f = grind (arith, ints)
 
 pub widest_fits : (v : ℤ) → in_kind I8 v ≡ true → FitsSigned w64 v
-unfolding is_whole least greatest in_kind
+unfolding least greatest in_kind
 widest_fits v h = grind (arith, ints)
 
 -- every kind's numbers are in kind 8
 pub widens : (kind : Kind) (v : ℤ) → in_kind kind v ≡ true → in_kind I8 v ≡ true
-unfolding is_whole least greatest in_kind
+unfolding least greatest in_kind
 widens I1 v h = grind (arith, ints)
 widens I2 v h = grind (arith, ints)
 widens I4 v h = grind (arith, ints)

@@ -13,9 +13,9 @@ next : (k n : ℕ) → ((k % suc n ≡ n) × (suc k % suc n ≡ 0)) ⊎ ((k % su
 next k n =
     let below : k % suc n < suc n = mod-lt k (omega arith) in
     ⊎_elim
-      (λ (s : k % suc n < n). inr (s, suc-mod k (suc n) ∙ mod-eq_of_lt (omega arith)))
-      (λ (s : n ≤ k % suc n). let e : k % suc n ≡ n = omega arith in inl (e, suc-mod k (suc n) ∙ ap (λ m. suc m % suc n) e ∙ mod_self (suc n)))
-      (cases_lt (k % suc n) n)
+    (λ (s : k % suc n < n). inr (s, suc-mod k (suc n) ∙ mod-eq_of_lt (omega arith)))
+    (λ (s : n ≤ k % suc n). let e : k % suc n ≡ n = omega arith in inl (e, suc-mod k (suc n) ∙ ap (λ m. suc m % suc n) e ∙ mod_self (suc n)))
+    (cases_lt (k % suc n) n)
 
 -- a remainder that is zero or has the sign of p
 pub kept : (a p r : ℤ) → p ≢ pos 0 → r ≡ int_rem a p → (r ≡ pos 0) ⊎ (int_lt r (pos 0) ≡ int_lt p (pos 0)) → modulo a p ≡ Some r

@@ -9,7 +9,7 @@ use Rattle.fort_arith.specs.declared.op.Intrinsic.TheVariants.{Abs, Int, Max, Mi
 use Rattle.fort_arith.specs.Range.{fitted}
 
 -- a function of whole numbers that takes this number of arguments: ABS one, MOD, MODULO and SIGN two, MAX and MIN two or more
-unfoldable pub takes : Intrinsic → ℕ → Bool
+abbrev pub takes : Intrinsic → ℕ → Bool
 takes Abs count = count == 1
 takes Max count = nat_le 2 count
 takes Min count = nat_le 2 count

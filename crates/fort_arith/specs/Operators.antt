@@ -8,7 +8,7 @@ use Rattle.fort_arith.specs.declared.op.Op.TheVariants.{Pow, Mul, Div, Add, Sub,
 use Rattle.fort_arith.specs.Range.{fitted}
 use Rattle.fort_arith.specs.Power.{quotient, exact_power}
 
-unfoldable pub is_arithmetic : Op → Bool
+abbrev pub is_arithmetic : Op → Bool
 is_arithmetic Pow = true
 is_arithmetic Mul = true
 is_arithmetic Div = true
@@ -25,7 +25,7 @@ is_arithmetic Or = false
 is_arithmetic Eqv = false
 is_arithmetic Neqv = false
 
-unfoldable pub is_relation : Op → Bool
+abbrev pub is_relation : Op → Bool
 is_relation Pow = false
 is_relation Mul = false
 is_relation Div = false

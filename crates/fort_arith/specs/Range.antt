@@ -4,7 +4,7 @@ use Rattle.fort_arith.specs.declared.kind.Kind.{Kind}
 use Rattle.fort_arith.specs.declared.kind.Kind.TheVariants.{I1, I2, I4, I8, Logical}
 
 -- an INTEGER kind
-unfoldable pub is_whole : Kind → Bool
+abbrev pub is_whole : Kind → Bool
 is_whole I1 = true
 is_whole I2 = true
 is_whole I4 = true

@@ -20,7 +20,6 @@ pub fn intrinsic(which: Intrinsic, kind: Kind, args: &[i64]) -> Option<i64>
 }
 
 /// The exact value of a reference, as a number of kind 8.
-#[tactic(auto, unfolding(crate::specs::Intrinsics::takes))]
 fn exact(which: Intrinsic, args: &[i64]) -> Option<i64>
     requires takes { IsTrue (takes which (length args.now)) }
     ensures { result ≡ option_and_then (fitted I8) (exact_intrinsic which args.now) }
@@ -60,7 +59,11 @@ fn least_of(first: i64, rest: &[i64]) -> i64
 fn remainder(a: i64, p: i64) -> Option<i64>
     ensures { result ≡ option_and_then (fitted I8) (remainder_of a p) }
 {
-    if p == 0 { None } else { Some(a.wrapping_rem(p)) }
+    if p == 0 {
+        None
+    } else {
+        Some(a.wrapping_rem(p))
+    }
 }
 
 /// The remainder with the sign of p: `None` exactly where p is zero.

@@ -16,7 +16,6 @@ impl Kind {
     ghost use Rattle.fort_arith.specs.Range.{is_whole as whole_test};
 
     /// Whether it is an INTEGER kind.
-    #[tactic(auto, unfolding(crate::specs::Range::is_whole))]
     pub fn is_whole(self) -> bool
         ensures { result ≡ whole_test self }
     {

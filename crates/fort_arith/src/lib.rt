@@ -18,3 +18,6 @@ pub use kind::Kind;
 pub use op::{Intrinsic, Op};
 pub use operators::{apply, compare};
 pub use range::{Limits, fit, holds, limits_of};
+
+#[cfg(test)]
+mod tests;

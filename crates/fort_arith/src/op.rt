@@ -24,7 +24,6 @@ impl Op {
     ghost use Rattle.fort_arith.specs.Operators.{is_arithmetic as arithmetic_test, is_relation as relation_test};
 
     /// Whether it takes two numbers and gives a number.
-    #[tactic(auto, unfolding(crate::specs::Operators::is_arithmetic))]
     pub fn is_arithmetic(self) -> bool
         ensures { result ≡ arithmetic_test self }
     {
@@ -32,7 +31,6 @@ impl Op {
     }
 
     /// Whether it compares two numbers.
-    #[tactic(auto, unfolding(crate::specs::Operators::is_relation))]
     pub fn is_relation(self) -> bool
         ensures { result ≡ relation_test self }
     {
@@ -59,7 +57,6 @@ impl Intrinsic {
 
     /// Whether it is a function of whole numbers that takes this number of arguments: ABS one, MOD, MODULO and SIGN two,
     /// MAX and MIN two or more. INT, SIZE and SUM are no functions of whole numbers alone.
-    #[tactic(auto, unfolding(crate::specs::Intrinsics::takes))]
     pub fn takes(self, count: usize) -> bool
         ensures { result ≡ takes_test self count }
     {

@@ -9,7 +9,7 @@ use crate::range::fit;
 use crate::{Kind, Op};
 
 /// The truth of a relation between two numbers (ISO/IEC 1539-1:2018 10.1.5.5).
-#[tactic(auto, unfolding(crate::specs::Operators::is_relation, crate::specs::Operators::compared))]
+#[tactic(auto, unfolding(crate::specs::Operators::compared))]
 pub fn compare(op: Op, a: i64, b: i64) -> bool
     requires relation { IsTrue (is_relation op) }
     ensures { result ≡ compared op a b }
@@ -36,7 +36,6 @@ pub fn apply(op: Op, kind: Kind, a: i64, b: i64) -> Option<i64>
 }
 
 /// The exact value of an arithmetic operation, as a number of kind 8.
-#[tactic(auto, unfolding(crate::specs::Operators::is_arithmetic))]
 fn exact(op: Op, a: i64, b: i64) -> Option<i64>
     requires arithmetic { IsTrue (is_arithmetic op) }
     ensures { result ≡ option_and_then (fitted I8) (exact_of op a b) }

@@ -31,7 +31,7 @@ const LIMITS: [Limits; 4] = [
 ];
 
 /// The limits of an INTEGER kind, by the table.
-#[tactic(auto, unfolding(crate::specs::Range::is_whole, crate::specs::Range::least, crate::specs::Range::greatest))]
+#[tactic(auto, unfolding(crate::specs::Range::least, crate::specs::Range::greatest))]
 pub fn limits_of(kind: Kind) -> Limits
     requires whole { IsTrue (is_whole kind) }
     ensures least { result.least ≡ least kind }
@@ -47,14 +47,15 @@ pub fn limits_of(kind: Kind) -> Limits
 }
 
 /// Whether a number is one of the kind; LOGICAL has none.
-#[tactic(auto, unfolding(crate::specs::Range::is_whole, crate::specs::Range::in_kind))]
+#[tactic(auto, unfolding(crate::specs::Range::in_kind))]
 pub fn holds(kind: Kind, a: i64) -> bool
     ensures { result ≡ in_kind kind a }
 {
-    kind.is_whole() && {
-        let Limits { least, greatest } = limits_of(kind);
-        least <= a && a <= greatest
-    }
+    kind.is_whole()
+        && {
+            let Limits { least, greatest } = limits_of(kind);
+            least <= a && a <= greatest
+        }
 }
 
 /// The number as one of the kind: `None` exactly where it isn't in the kind.

@@ -7,7 +7,6 @@ use Rattle.fort_arith.proofs.Arguments.{of_abs, of_max, of_min, of_mod, of_modul
 use Rattle.fort_arith.proofs.intrinsics.exact.Goals as goal
 
 pub returns-in-Abs : goal.returns-in-Abs
-unfolding takes
 returns-in-Abs c =
     let args = c.args.args.now in
     let taken = rw c.in-Abs.is at c.requires.takes in
@@ -17,7 +16,6 @@ returns-in-Abs c =
     rw (c.in-Abs.is, of_abs args count) (fitted_asked _ _ (absolute (get_or args 0 (pos 0))) result_is (λ f. omega (arith, ints, f)) (λ f. omega (arith, ints, f)))
 
 pub returns-in-Max : goal.returns-in-Max
-unfolding takes
 returns-in-Max c =
     let args = c.args.args.now in
     let taken = rw c.in-Max.is at c.requires.takes in
@@ -28,7 +26,6 @@ returns-in-Max c =
     rw (c.in-Max.is, of_max args count, ← result_is, to_z-of_z w64 c.greatest_of.result result_fits) (fitted_whole _ result_fits)
 
 pub returns-in-Min : goal.returns-in-Min
-unfolding takes
 returns-in-Min c =
     let args = c.args.args.now in
     let taken = rw c.in-Min.is at c.requires.takes in
@@ -39,7 +36,6 @@ returns-in-Min c =
     rw (c.in-Min.is, of_min args count, ← result_is, to_z-of_z w64 c.least_of.result result_fits) (fitted_whole _ result_fits)
 
 pub returns-in-Mod : goal.returns-in-Mod
-unfolding takes
 returns-in-Mod c =
     let args = c.args.args.now in
     let taken = rw c.in-Mod.is at c.requires.takes in
@@ -49,7 +45,6 @@ returns-in-Mod c =
     rw (c.in-Mod.is, of_mod args count) (simp to_z-of_z at c.remainder.ensures)
 
 pub returns-in-Modulo : goal.returns-in-Modulo
-unfolding takes
 returns-in-Modulo c =
     let args = c.args.args.now in
     let taken = rw c.in-Modulo.is at c.requires.takes in
@@ -59,7 +54,6 @@ returns-in-Modulo c =
     rw (c.in-Modulo.is, of_modulo args count) (simp to_z-of_z at c.modulo.ensures)
 
 pub returns-in-Sign : goal.returns-in-Sign
-unfolding takes
 returns-in-Sign c =
     let args = c.args.args.now in
     let taken = rw c.in-Sign.is at c.requires.takes in
@@ -67,4 +61,3 @@ returns-in-Sign c =
     let first_fits : FitsSigned w64 (get_or args 0 (pos 0)) = search rules in
     let second_fits : FitsSigned w64 (get_or args 1 (pos 0)) = search rules in
     rw (c.in-Sign.is, of_sign args count) (simp to_z-of_z at c.with_sign.ensures)
-

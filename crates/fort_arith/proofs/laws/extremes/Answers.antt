@@ -39,7 +39,7 @@ greatest_is (a ∷ b ∷ rest) r e =
     let bounds = fold-int_max_bounds a (b ∷ rest) r is in
     record {
       member = ⊎_elim (λ s. (0, omega arith, sym s)) (λ h. Contains-append_right (a ∷ []) (b ∷ rest) r h) (fold-int_max_reached a (b ∷ rest) r is);
-      bound = All-cons (λ x. x ≤ℤ r) a (b ∷ rest) bounds.0 bounds.1
+      bound = All-cons (λ x. x ≤ℤ r) a (b ∷ rest) bounds.0 bounds.1;
     }
 
 least_is : (args : List ℤ) (r : ℤ) → exact_intrinsic Min args ≡ Some r → IsLeast args r
@@ -51,7 +51,7 @@ least_is (a ∷ b ∷ rest) r e =
     let bounds = fold-int_min_bounds a (b ∷ rest) r is in
     record {
       member = ⊎_elim (λ s. (0, omega arith, sym s)) (λ h. Contains-append_right (a ∷ []) (b ∷ rest) r h) (fold-int_min_reached a (b ∷ rest) r is);
-      bound = All-cons (λ x. r ≤ℤ x) a (b ∷ rest) bounds.0 bounds.1
+      bound = All-cons (λ x. r ≤ℤ x) a (b ∷ rest) bounds.0 bounds.1;
     }
 
 pub returns-clause-absolute : goal.returns-clause-absolute

@@ -18,9 +18,10 @@ both false low high = (λ e. cc, λ t. t.0)
 between : (kind : Kind) (v : ℤ) → IsTrue (in_kind kind v) ↔ (IsTrue (is_whole kind) × (least kind ≤ℤ v) × (v ≤ℤ greatest kind))
 unfolding in_kind
 between kind v =
-    let parts = both (is_whole kind) (int_le (least kind) v) (int_le v (greatest kind)) in
-    (λ e. let t = parts.0 e in (t.0, omega (arith, ints, t.1), omega (arith, ints, t.2)),
-     λ t. parts.1 (t.0, grind (arith, ints, t.1), grind (arith, ints, t.2)))
+    let parts = both (is_whole kind) (int_le (least kind) v) (int_le v (greatest kind)) in (
+      λ e. let t = parts.0 e in (t.0, omega (arith, ints, t.1), omega (arith, ints, t.2)),
+      λ t. parts.1 (t.0, grind (arith, ints, t.1), grind (arith, ints, t.2)),
+    )
 
 pub returns-clause-between : goal.returns-clause-between
 returns-clause-between c = between

@@ -28,5 +28,5 @@ returns c = λ a b.
       less = less a b;
       at_most = at_most a b;
       greater = less b a;
-      at_least = at_most b a
+      at_least = at_most b a;
     }

@@ -7,7 +7,7 @@ use Rattle.fort_arith.specs.Intrinsics.{remainder, modulo, with_sign, exact_intr
 use Rattle.fort_arith.proofs.laws.rows.Goals as goal
 
 pub returns-clause-operators : goal.returns-clause-operators
-unfolding is_whole least greatest in_kind fitted power quotient exact_power exact applied
+unfolding least greatest in_kind fitted power quotient exact_power exact applied
 returns-clause-operators c = record {
   least_by_minus_one = refl;
   least_as_power = refl;
@@ -20,11 +20,11 @@ returns-clause-operators c = record {
   by_zero = refl;
   greatest_and_one = refl;
   least_less_one = refl;
-  widest_product = refl
+  widest_product = refl;
 }
 
 pub returns-clause-intrinsics : goal.returns-clause-intrinsics
-unfolding is_whole least greatest in_kind fitted remainder modulo with_sign exact_intrinsic intrinsic_applied
+unfolding least greatest in_kind fitted remainder modulo with_sign exact_intrinsic intrinsic_applied
 returns-clause-intrinsics c = record {
   mod_has_sign_of_first = refl;
   modulo_has_sign_of_second = refl;
@@ -35,5 +35,5 @@ returns-clause-intrinsics c = record {
   sign_keeps_least = refl;
   sign_of_zero = refl;
   greatest_of_three = refl;
-  least_of_three = refl
+  least_of_three = refl;
 }

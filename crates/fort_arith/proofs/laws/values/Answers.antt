@@ -10,9 +10,10 @@ use Rattle.fort_arith.proofs.laws.values.Goals as goal
 
 fits : (kind : Kind) (v w : ℤ) → (fitted kind v ≡ Some w) ↔ ((v ≡ w) × IsTrue (in_kind kind w))
 unfolding fitted
-fits kind v w =
-    (λ e. let t = cond_some (in_kind kind v) v w e in (t.1, ap (in_kind kind) (sym t.1) ∙ t.0),
-     λ (e, t). rw (e, t) refl)
+fits kind v w = (
+  λ e. let t = cond_some (in_kind kind v) v w e in (t.1, ap (in_kind kind) (sym t.1) ∙ t.0),
+  λ (e, t). rw (e, t) refl,
+)
 
 narrows : (kind : Kind) (o : Option ℤ) (v : ℤ) → (option_and_then (fitted kind) o ≡ Some v) ↔ ((o ≡ Some v) × IsTrue (in_kind kind v))
 narrows kind None v = (λ e. cc, λ (e, t). cc)

@@ -19,23 +19,23 @@ returns-in-0 c =
     rw (x_is, of_zero c.args.n (omega (arith, ints))) refl
 
 pub returns-in-1 : goal.returns-in-1
-unfolding is_whole least greatest in_kind fitted
+unfolding least greatest in_kind fitted
 returns-in-1 c =
     let x_is : c.args.x ≡ pos 1 = omega (arith, ints) in
     rw x_is (kept _ _ (of_one c.args.n (omega (arith, ints))) refl)
 
 pub returns-then-n-eq0 : goal.returns-then-n-eq0
-unfolding is_whole least greatest in_kind fitted
+unfolding least greatest in_kind fitted
 returns-then-n-eq0 c =
     let x_is : c.args.x ≡ negsuc 0 = omega (arith, ints) in
     rw x_is (kept _ _ (of_even c.args.n (omega (arith, ints)) (omega (arith, ints))) refl)
 
 pub returns-else-n-eq0 : goal.returns-else-n-eq0
-unfolding is_whole least greatest in_kind fitted
+unfolding least greatest in_kind fitted
 returns-else-n-eq0 c =
     let x_is : c.args.x ≡ negsuc 0 = omega (arith, ints) in
     rw x_is (kept _ _ (of_odd c.args.n (omega (arith, ints)) (omega (arith, ints))) refl)
 
 pub returns-in_default : goal.returns-in_default
-unfolding is_whole least greatest in_kind fitted
+unfolding least greatest in_kind fitted
 returns-in_default c = kept _ _ (of_other c.args.x c.args.n (omega (arith, ints)) (omega (arith, ints))) refl
