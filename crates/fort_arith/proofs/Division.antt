@@ -1,12 +1,12 @@
 -- A division with a remainder is the only one of its kind.
-use Rattle.std.proofs.Common.{◌≡◌, ℕ, zero, suc, ◌+◌, ◌-◌, ◌*◌, ◌/◌, ◌%◌, ◌<◌, ◌≤◌, Option, Some, None, ℤ, pos, negsuc, neg_ℤ, ◌+ℤ◌, ◌-ℤ◌, ◌*ℤ◌, ◌≤ℤ◌, ◌<ℤ◌, unsigned_abs, arith, refl, sym, ap, ◌∙◌, inl, inr, ⊎_elim}
-use Rattle.std.specs.Prelude.{◌≢◌, ◌⊎◌, int_div, int_rem}
+use Rattle.std.proofs.Common.{◌≡◌, ℕ, zero, suc, ◌+◌, ◌*◌, ◌/◌, ◌<◌, ◌≤◌, Some, ℤ, pos, negsuc, neg_ℤ, ◌-ℤ◌, ◌*ℤ◌, ◌≤ℤ◌, unsigned_abs, arith, refl, sym, ap, ◌∙◌}
+use Rattle.std.specs.Prelude.{◌≢◌, int_div, int_rem}
 use Rattle.std.specs.Int.{int_rem_euclid}
-use Rattle.std.proofs.Math.Nat.{mul-le-mul_left, mul-le-mul_right, mod-le, div-add-mod'}
+use Rattle.std.proofs.Math.Nat.{mul-le-mul_right, mod-le, div-add-mod'}
 use Rattle.std.proofs.lemmas.Int.{ints, quot-rem, rem_below, unsigned_abs-mul}
 use Rattle.std.proofs.lemmas.Nat.{mod_below}
 use Rattle.std.proofs.lemmas.Option.{same_Some}
-use borrow.Author.Differences.{up, down, same_in, same_out, sum_is_lem, product_is}
+use borrow.Author.Differences.{up, down}
 use Rattle.fort_arith.specs.Power.{quotient}
 use Rattle.fort_arith.specs.Intrinsics.{remainder, modulo}
 use Rattle.fort_arith.specs.Laws.{Splits, HasSignOfDividend, HasSignOfDivisor, Truncates, Floors}

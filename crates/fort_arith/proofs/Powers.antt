@@ -1,7 +1,6 @@
 -- Lemmas on powers.
-use Rattle.std.proofs.Common.{◌≡◌, ℕ, zero, suc, ◌+◌, ◌-◌, ◌*◌, ◌/◌, ◌%◌, ◌^◌, ◌<◌, ◌≤◌, Bool, true, false, cond, Option, Some, None, ℤ, pos, negsuc, ◌*ℤ◌, unsigned_abs, FitsSigned, w64, arith, refl, sym, ap, ◌∙◌, ⊎_elim}
-use Rattle.std.proofs.Math.Nat.{pow-zero, pow-suc, add-suc, add-zero, mul-le-mul_left, div-eq_of_lt, div-one}
-use Rattle.std.proofs.Math.IntN.{*ℤ-one, *ℤ_comm}
+use Rattle.std.proofs.Common.{◌≡◌, ℕ, zero, suc, ◌+◌, ◌-◌, ◌*◌, ◌/◌, ◌%◌, ◌^◌, ◌<◌, ◌≤◌, false, None, ℤ, pos, ◌*ℤ◌, unsigned_abs, FitsSigned, w64, arith, refl, sym, ap, ◌∙◌, ⊎_elim}
+use Rattle.std.proofs.Math.Nat.{pow-zero, pow-suc, add-suc, add-zero, mul-le-mul_left, div-eq_of_lt}
 use Rattle.std.proofs.lemmas.Int.{unsigned_abs-mul, fits_signed_from_abs, ints}
 use Rattle.std.proofs.lemmas.Nat.{shr-shr, shr_le, leading_length}
 use Rattle.std.proofs.lemmas.Bool.{cases_lt}

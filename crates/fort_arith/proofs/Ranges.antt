@@ -1,11 +1,11 @@
 -- Lemmas on the numbers of a kind. Kind 8 has those of 64 bits, and so all numbers of each kind.
-use Rattle.std.proofs.Common.{◌≡◌, ℕ, ◌<◌, ◌≤◌, ◌^◌, Bool, true, false, cond, ◌&&◌, Option, Some, None, ℤ, pos, negsuc, FitsSigned, w64, arith, refl, sym, ap, ◌∙◌, inl, inr, ⊎_elim, IsTrue, rules}
-use Rattle.std.specs.Prelude.{int_le, SomeIff, ◌⊎◌}
+use Rattle.std.proofs.Common.{◌≡◌, Bool, true, false, cond, Option, Some, None, ℤ, FitsSigned, w64, arith, refl, ap}
+use Rattle.std.specs.Prelude.{SomeIff}
 use Rattle.std.specs.Option.{option_and_then}
 use Rattle.std.proofs.lemmas.Int.{ints}
 use Rattle.fort_arith.specs.declared.kind.Kind.{Kind}
 use Rattle.fort_arith.specs.declared.kind.Kind.TheVariants.{I1, I2, I4, I8, Logical}
-use Rattle.fort_arith.specs.Range.{is_whole, least, greatest, in_kind, fitted}
+use Rattle.fort_arith.specs.Range.{least, greatest, in_kind, fitted}
 
 pub widest_has : (v : ℤ) → FitsSigned w64 v → in_kind I8 v ≡ true
 unfolding least greatest in_kind

@@ -1,10 +1,10 @@
 -- Lemmas on negative powers: 1 / x ** n for n above zero.
-use Rattle.std.proofs.Common.{◌≡◌, ℕ, zero, suc, ◌+◌, ◌-◌, ◌*◌, ◌/◌, ◌%◌, ◌^◌, ◌<◌, ◌≤◌, Option, Some, None, ℤ, pos, negsuc, ◌*ℤ◌, ◌<ℤ◌, neg_ℤ, unsigned_abs, int_div, FitsSigned, w64, arith, refl, sym, ap, ◌∙◌, ⊎_elim}
+use Rattle.std.proofs.Common.{◌≡◌, ℕ, zero, suc, ◌%◌, ◌^◌, ◌≤◌, Option, Some, None, ℤ, pos, negsuc, ◌*ℤ◌, ◌<ℤ◌, neg_ℤ, unsigned_abs, arith, refl, ap}
 use Rattle.std.proofs.Math.Nat.{pow-suc, one-le-pow, mul-le-mul_left, div-eq_of_lt}
 use Rattle.std.proofs.lemmas.Int.{ints}
 use Rattle.std.specs.Option.{option_and_then}
 use Rattle.fort_arith.specs.declared.kind.Kind.TheVariants.{I8}
-use Rattle.fort_arith.specs.Range.{is_whole, least, greatest, in_kind, fitted}
+use Rattle.fort_arith.specs.Range.{fitted}
 use Rattle.fort_arith.specs.Power.{power, quotient, exact_power}
 use Rattle.fort_arith.proofs.Powers.{abs-power}
 

@@ -1,12 +1,11 @@
 -- Lemmas on MOD and MODULO.
-use Rattle.std.proofs.Common.{◌≡◌, ℕ, zero, suc, ◌+◌, ◌-◌, ◌*◌, ◌/◌, ◌%◌, ◌<◌, ◌≤◌, Bool, true, false, not, Option, Some, None, ℤ, pos, negsuc, FitsSigned, w64, neg_ℤ, ◌+ℤ◌, ◌*ℤ◌, ◌<ℤ◌, ◌≤ℤ◌, arith, refl, sym, ap, ◌∙◌, inl, inr, ⊎_elim}
+use Rattle.std.proofs.Common.{◌≡◌, ℕ, zero, suc, ◌%◌, ◌<◌, ◌≤◌, Bool, true, false, Some, ℤ, pos, negsuc, FitsSigned, w64, ◌+ℤ◌, arith, refl, sym, ap, ◌∙◌, inl, inr, ⊎_elim}
 use mathlib.Core.Bool.{beq}
-use Rattle.std.specs.Prelude.{◌≢◌, ◌⊎◌, int_rem, int_div, int_lt}
-use Rattle.std.specs.Int.{int_rem_euclid}
+use Rattle.std.specs.Prelude.{◌≢◌, ◌⊎◌, int_rem, int_lt}
 use Rattle.std.proofs.Math.Nat.{zero-mod, suc-mod, mod-lt, mod_self, mod-eq_of_lt}
 use Rattle.std.proofs.lemmas.Bool.{cases_lt}
 use Rattle.std.proofs.lemmas.Int.{ints}
-use Rattle.fort_arith.specs.Intrinsics.{remainder, modulo}
+use Rattle.fort_arith.specs.Intrinsics.{modulo}
 
 -- the remainder of the next number
 next : (k n : ℕ) → ((k % suc n ≡ n) × (suc k % suc n ≡ 0)) ⊎ ((k % suc n < n) × (suc k % suc n ≡ suc (k % suc n)))

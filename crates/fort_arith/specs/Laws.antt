@@ -1,14 +1,12 @@
 -- What the laws of this crate state, in the words of the standard and of whole numbers.
-use Rattle.std.specs.Prelude.{◌≡◌, ◌≢◌, ℕ, ◌+◌, ◌<◌, ◌⊎◌, ◌↔◌, Bool, true, false, IsTrue, Option, Some, None, ℤ, pos, negsuc, neg_ℤ, ◌+ℤ◌, ◌*ℤ◌, ◌≤ℤ◌, ◌<ℤ◌, unsigned_abs, List, [], ◌∷◌}
+use Rattle.std.specs.Prelude.{◌≡◌, ◌≢◌, ◌<◌, ◌⊎◌, ◌↔◌, IsTrue, Some, None, ℤ, pos, negsuc, neg_ℤ, ◌+ℤ◌, ◌*ℤ◌, ◌≤ℤ◌, ◌<ℤ◌, unsigned_abs, List, [], ◌∷◌}
 use Rattle.std.specs.List.{All, Contains}
-use Rattle.fort_arith.specs.declared.kind.Kind.{Kind}
-use Rattle.fort_arith.specs.declared.kind.Kind.TheVariants.{I1, I2, I4, I8, Logical}
+use Rattle.fort_arith.specs.declared.kind.Kind.TheVariants.{I1, I2, I4, I8}
 use Rattle.fort_arith.specs.declared.op.Op.TheVariants.{Pow, Mul, Div, Add, Sub, Eq, Ne, Lt, Le, Gt, Ge}
 use Rattle.fort_arith.specs.declared.op.Intrinsic.TheVariants.{Abs, Max, Min, Mod, Modulo, Sign}
-use Rattle.fort_arith.specs.Range.{least, greatest, in_kind}
-use Rattle.fort_arith.specs.Power.{power}
+use Rattle.fort_arith.specs.Range.{least, greatest}
 use Rattle.fort_arith.specs.Operators.{applied, compared}
-use Rattle.fort_arith.specs.Intrinsics.{absolute, with_sign, exact_intrinsic, intrinsic_applied}
+use Rattle.fort_arith.specs.Intrinsics.{intrinsic_applied}
 
 -- ---- the kinds
 

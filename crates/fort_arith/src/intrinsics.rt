@@ -10,7 +10,8 @@ use crate::range::fit;
 use crate::{Intrinsic, Kind};
 
 /// The value of ABS, MAX, MIN, MOD, MODULO or SIGN of numbers, in a kind (ISO/IEC 1539-1:2018 16.9): the exact value, or
-/// `None` exactly where there is none, as in MOD and MODULO of a zero second argument, and where it isn't in the kind.
+/// `None` exactly where there is none, as in MOD and MODULO of a zero second argument, and where it isn't in the kind. The
+/// arguments are mostly of the kind, but needn't be.
 pub fn intrinsic(which: Intrinsic, kind: Kind, args: &[i64]) -> Option<i64>
     requires takes { IsTrue (takes which (length args.now)) }
     requires whole { IsTrue (is_whole kind) }

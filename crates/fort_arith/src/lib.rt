@@ -3,6 +3,9 @@
 //! The four INTEGER kinds hold the signed numbers of 8, 16, 32 and 64 bits. Each operation is taken in the whole numbers;
 //! it has a value exactly where the exact value exists and is in the kind, and else the run traps, which is `None` here.
 //! Nothing takes memory.
+//!
+//! Each operation is taken in 64 bits and then fitted into the kind, so the kinds differ only in one table of limits, in
+//! `range`, whose rule is proved once.
 #![tactic(auto)]
 
 pub mod intrinsics;

@@ -26,7 +26,8 @@ pub fn compare(op: Op, a: i64, b: i64) -> bool
 }
 
 /// The value of an arithmetic operation on two numbers, in a kind (ISO/IEC 1539-1:2018 10.1.5.2): the exact value, or `None`
-/// exactly where there is none, as in a division by zero or a negative power of zero, and where it isn't in the kind.
+/// exactly where there is none, as in a division by zero or a negative power of zero, and where it isn't in the kind. The
+/// operands are mostly of the kind, but needn't be.
 pub fn apply(op: Op, kind: Kind, a: i64, b: i64) -> Option<i64>
     requires arithmetic { IsTrue (is_arithmetic op) }
     requires whole { IsTrue (is_whole kind) }

@@ -7,8 +7,8 @@ ghost use Rattle.std.specs.Option.{option_and_then};
 /// `base ** exponent` as a number of kind 8: `None` exactly where it isn't one.
 ///
 /// It goes through the binary digits of the exponent, the highest first: one multiplication squares, and one more follows at
-/// a digit 1. So there are at most 128 multiplications. For a base other than 0, 1 and -1 there are at most 14: each partial
-/// power has twice the exponent of the one before, and the first that isn't in kind 8 ends the work.
+/// a digit 1. So there are at most 128 multiplications. For a base other than 0, 1 and -1 there are at most 13, since
+/// partial powers at least double their exponent, none of more than 63 is in kind 8, and the first that isn't ends the work.
 fn power(base: i64, exponent: u64) -> Option<i64>
     ensures { result ≡ fitted I8 (power_of base exponent) }
 {

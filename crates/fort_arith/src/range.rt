@@ -30,7 +30,7 @@ const LIMITS: [Limits; 4] = [
     },
 ];
 
-/// The limits of an INTEGER kind, by the table.
+/// The limits of an INTEGER kind, by the table. All else on the four kinds goes through here.
 #[tactic(auto, unfolding(crate::specs::Range::least, crate::specs::Range::greatest))]
 pub fn limits_of(kind: Kind) -> Limits
     requires whole { IsTrue (is_whole kind) }
@@ -51,14 +51,14 @@ pub fn limits_of(kind: Kind) -> Limits
 pub fn holds(kind: Kind, a: i64) -> bool
     ensures { result ≡ in_kind kind a }
 {
-    kind.is_whole()
-        && {
-            let Limits { least, greatest } = limits_of(kind);
-            least <= a && a <= greatest
-        }
+    if !kind.is_whole() {
+        return false;
+    }
+    let Limits { least, greatest } = limits_of(kind);
+    least <= a && a <= greatest
 }
 
-/// The number as one of the kind: `None` exactly where it isn't in the kind.
+/// The number converted to an INTEGER kind: the same number, or `None` exactly where it isn't in the kind.
 #[tactic(auto, unfolding(crate::specs::Range::fitted))]
 pub fn fit(kind: Kind, a: i64) -> Option<i64>
     requires whole { IsTrue (is_whole kind) }

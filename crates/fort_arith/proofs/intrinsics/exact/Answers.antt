@@ -1,7 +1,7 @@
-use Rattle.std.proofs.Common.{◌≡◌, ◌≤◌, length, get_or, ℤ, pos, FitsSigned, w64, arith, rules, sym, refl}
+use Rattle.std.proofs.Common.{◌≡◌, ◌≤◌, length, get_or, pos, FitsSigned, w64, arith, rules}
 use Rattle.std.proofs.lemmas.Int.{to_z-of_z, ints}
 use Rattle.std.proofs.lemmas.Bool.Decides.{nat_tests}
-use Rattle.fort_arith.specs.Intrinsics.{takes, absolute}
+use Rattle.fort_arith.specs.Intrinsics.{absolute}
 use Rattle.fort_arith.proofs.Ranges.{fitted_asked, fitted_whole}
 use Rattle.fort_arith.proofs.Arguments.{of_abs, of_max, of_min, of_mod, of_modulo, of_sign}
 use Rattle.fort_arith.proofs.intrinsics.exact.Goals as goal

@@ -1,4 +1,4 @@
-use Rattle.std.proofs.Common.{◌≡◌, ◌∙◌, sym, ap, refl, to_z, of_z, ℤ, FitsSigned, w64, rules}
+use Rattle.std.proofs.Common.{◌∙◌, ap, FitsSigned, w64, rules}
 use Rattle.std.specs.Option.{option_and_then}
 use Rattle.std.proofs.lemmas.Int.{to_z-of_z}
 use Rattle.fort_arith.specs.Range.{fitted}

@@ -1,4 +1,4 @@
-use Rattle.std.proofs.Common.{◌≡◌, ℤ, pos, negsuc, zero, suc, Some, None, FitsSigned, w64, arith, refl, sym, ap, ◌∙◌, inl, inr, ◌+ℤ◌, to_z, of_z, true, false}
+use Rattle.std.proofs.Common.{◌≡◌, pos, FitsSigned, w64, arith, refl, sym, ap, ◌∙◌, inl, inr, ◌+ℤ◌, of_z, true, false}
 use Rattle.std.specs.Prelude.{◌≢◌, ◌⊎◌, int_rem, int_lt}
 use Rattle.std.proofs.lemmas.Int.{to_z-of_z, ints}
 use Rattle.fort_arith.specs.Intrinsics.{modulo}

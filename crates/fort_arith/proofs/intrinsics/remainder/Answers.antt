@@ -1,4 +1,4 @@
-use Rattle.std.proofs.Common.{◌≡◌, ℤ, pos, negsuc, zero, suc, Some, None, FitsSigned, w64, arith, refl, sym, ap, ◌∙◌, to_z, of_z}
+use Rattle.std.proofs.Common.{◌≡◌, ℤ, pos, negsuc, zero, suc, Some, FitsSigned, w64, arith, refl, ap, of_z}
 use Rattle.std.specs.Prelude.{◌≢◌, int_rem}
 use Rattle.std.proofs.lemmas.Int.{to_z-of_z, ints}
 use Rattle.fort_arith.specs.Intrinsics.{remainder}

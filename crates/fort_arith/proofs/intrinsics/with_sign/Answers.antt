@@ -1,8 +1,6 @@
-use Rattle.std.proofs.Common.{◌≡◌, ℤ, pos, negsuc, zero, suc, Option, Some, None, neg_ℤ, ◌<ℤ◌, ◌≤ℤ◌, unsigned_abs, FitsSigned, w64, arith, refl, sym, ap, ◌∙◌, to_z, of_z, cond, Bool, true, false}
-use Rattle.std.specs.Prelude.{SomeIff, int_le}
+use Rattle.std.proofs.Common.{◌≡◌, ℤ, pos, Some, neg_ℤ, FitsSigned, w64, arith, refl, true, false}
+use Rattle.std.specs.Prelude.{int_le}
 use Rattle.std.proofs.lemmas.Int.{to_z-of_z, ints}
-use Rattle.fort_arith.specs.declared.kind.Kind.TheVariants.{I8}
-use Rattle.fort_arith.specs.Range.{fitted}
 use Rattle.fort_arith.specs.Intrinsics.{absolute, with_sign}
 use Rattle.fort_arith.proofs.Ranges.{fitted_asked, fitted_checked}
 use Rattle.fort_arith.proofs.intrinsics.with_sign.Goals as goal

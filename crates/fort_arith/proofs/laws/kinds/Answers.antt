@@ -1,4 +1,4 @@
-use Rattle.std.proofs.Common.{◌≡◌, ℕ, Bool, true, false, ◌&&◌, IsTrue, ℤ, ◌≤ℤ◌, refl, arith}
+use Rattle.std.proofs.Common.{Bool, true, false, ◌&&◌, IsTrue, ℤ, ◌≤ℤ◌, refl, arith}
 use Rattle.std.specs.Prelude.{◌↔◌, int_le}
 use Rattle.std.proofs.lemmas.Int.{ints}
 use Rattle.fort_arith.specs.declared.kind.Kind.{Kind}

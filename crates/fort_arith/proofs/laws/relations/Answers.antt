@@ -1,10 +1,9 @@
-use Rattle.std.proofs.Common.{◌≡◌, Bool, true, false, not, IsTrue, ℤ, ◌≤ℤ◌, ◌<ℤ◌, refl, sym, arith}
-use Rattle.std.specs.Prelude.{◌≢◌, ◌↔◌, int_lt, int_le}
+use Rattle.std.proofs.Common.{◌≡◌, Bool, true, false, not, IsTrue, ℤ, ◌≤ℤ◌, ◌<ℤ◌, refl, arith}
+use Rattle.std.specs.Prelude.{◌↔◌, int_lt, int_le}
 use Rattle.std.specs.Ordering.{int_eq}
 use Rattle.std.proofs.lemmas.Int.{ints}
 use Rattle.std.proofs.lemmas.Bool.Decides.{Decides-int_eq}
 use Rattle.fort_arith.specs.Operators.{compared}
-use Rattle.fort_arith.specs.Laws.{Relations}
 use Rattle.fort_arith.proofs.laws.relations.Goals as goal
 
 less : (a b : ℤ) → IsTrue (int_lt a b) ↔ (a <ℤ b)

@@ -1,6 +1,5 @@
 use Rattle.std.proofs.Common.{refl}
-use Rattle.std.specs.Option.{option_and_then}
-use Rattle.fort_arith.specs.Range.{is_whole, least, greatest, in_kind, fitted}
+use Rattle.fort_arith.specs.Range.{least, greatest, in_kind, fitted}
 use Rattle.fort_arith.specs.Power.{power, quotient, exact_power}
 use Rattle.fort_arith.specs.Operators.{exact, applied}
 use Rattle.fort_arith.specs.Intrinsics.{remainder, modulo, with_sign, exact_intrinsic, intrinsic_applied}

@@ -1,8 +1,6 @@
-use Rattle.std.proofs.Common.{◌≡◌, ◌∙◌, sym, ap, refl, to_z, of_z, ℤ, FitsSigned, w64}
-use Rattle.std.specs.Option.{option_and_then}
+use Rattle.std.proofs.Common.{FitsSigned, w64}
 use Rattle.std.proofs.lemmas.Int.{to_z-of_z}
-use Rattle.fort_arith.specs.Range.{fitted}
-use Rattle.fort_arith.specs.Operators.{is_arithmetic, exact}
+use Rattle.fort_arith.specs.Operators.{exact}
 use Rattle.fort_arith.proofs.Ranges.{fitted_checked}
 use Rattle.fort_arith.proofs.operators.exact.Goals as goal
 

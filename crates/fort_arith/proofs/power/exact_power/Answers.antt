@@ -1,8 +1,6 @@
-use Rattle.std.proofs.Common.{◌≡◌, ℤ, pos, negsuc, ◌<ℤ◌, ◌≤◌, ◌%◌, unsigned_abs, Option, Some, None, FitsSigned, w64, arith, refl, sym, ap, ◌∙◌}
-use Rattle.std.specs.Option.{option_and_then}
+use Rattle.std.proofs.Common.{◌≡◌, pos, negsuc, FitsSigned, w64, arith, refl, ◌∙◌}
 use Rattle.std.proofs.lemmas.Int.{to_z-of_z, ints}
-use Rattle.fort_arith.specs.declared.kind.Kind.TheVariants.{I8}
-use Rattle.fort_arith.specs.Range.{is_whole, least, greatest, in_kind, fitted}
+use Rattle.fort_arith.specs.Range.{least, greatest, in_kind, fitted}
 use Rattle.fort_arith.proofs.Reciprocals.{of_zero, of_one, of_even, of_odd, of_other, of_whole, kept}
 use Rattle.fort_arith.proofs.power.exact_power.Goals as goal
 

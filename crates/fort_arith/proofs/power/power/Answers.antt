@@ -1,9 +1,7 @@
-use Rattle.std.proofs.Common.{◌≡◌, ◌^◌, ◌/◌, ◌%◌, ◌*ℤ◌, ℤ, Option, Some, FitsSigned, w64, to_z, of_z, arith, ◌∙◌, sym, ap, refl}
+use Rattle.std.proofs.Common.{◌≡◌, ◌^◌, ◌/◌, Some, FitsSigned, w64, to_z, arith, ◌∙◌, sym, refl}
 use Rattle.std.proofs.Math.Nat.{div-one}
 use Rattle.std.proofs.Math.Facts.{sfits_to_z}
-use Rattle.std.proofs.lemmas.Int.{to_z-of_z, ints}
-use Rattle.fort_arith.specs.declared.kind.Kind.TheVariants.{I8}
-use Rattle.fort_arith.specs.Range.{fitted}
+use Rattle.std.proofs.lemmas.Int.{to_z-of_z}
 use Rattle.fort_arith.specs.Power.{power}
 use Rattle.fort_arith.proofs.Ranges.{fitted_checked}
 use Rattle.fort_arith.proofs.Powers.{no_digit, squared, multiplied, square_refused, product_refused}
