@@ -1,0 +1,5 @@
+pub mod Range
+pub mod Power
+pub mod Operators
+pub mod Intrinsics
+pub mod Laws
