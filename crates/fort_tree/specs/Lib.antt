@@ -1,0 +1,9 @@
+pub mod formers
+pub mod Code
+pub mod Expr
+pub mod Intrinsic
+pub mod Name
+pub mod Part
+pub mod Same
+pub mod Seq
+pub mod Token
