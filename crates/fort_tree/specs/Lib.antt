@@ -4,6 +4,7 @@ pub mod Expr
 pub mod Intrinsic
 pub mod Name
 pub mod Part
+pub mod Report
 pub mod Same
 pub mod Seq
 pub mod Token

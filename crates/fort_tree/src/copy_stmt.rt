@@ -2,24 +2,15 @@
 ghost use Rattle.std.specs.Prelude.{◌≡◌, IfOk};
 
 use crate::copy::copy_if_any;
-use crate::{Arm, Case, Directive, Head, NoMemory, Range, Seq, Stmt, Sub};
+use crate::{Arm, Case, Directive, Head, NoMemory, Range, Seq, Stmt, TryClone};
 use std::alloc::Global;
-
-/// A copy that finds the memory for it, or an error.
-pub trait TryClone: Drop {
-    fn try_clone(&self, alloc: Global) -> Result<Self, NoMemory>
-        ensures { IfOk result (λ copy. copy ≡ self.now) };
-}
 
 impl TryClone for Range {
     fn try_clone(&self, alloc: Global) -> Result<Range, NoMemory> {
         Ok(match self {
             Range::One(expr) => Range::One(expr.try_clone(alloc)?),
-            Range::Span(None, None) => Range::Span(None, None),
-            Range::Span(None, Some(to)) => Range::Span(None, Some(to.try_clone(alloc)?)),
-            Range::Span(Some(from), None) => Range::Span(Some(from.try_clone(alloc)?), None),
-            Range::Span(Some(from), Some(to)) => {
-                Range::Span(Some(from.try_clone(alloc)?), Some(to.try_clone(alloc)?))
+            Range::Span(from, to) => {
+                Range::Span(copy_if_any(alloc, from)?, copy_if_any(alloc, to)?)
             }
         })
     }
@@ -74,7 +65,7 @@ impl TryClone for Stmt {
             } => Ok(Stmt::Call {
                 at: *at,
                 name: *name,
-                args: copy_list(alloc, args.items())?,
+                args: args.try_clone(alloc)?,
                 forward: *forward,
             }),
             Stmt::If {
@@ -171,7 +162,7 @@ fn copy_cases(alloc: Global, cases: &[Case]) -> Result<Seq<Case>, NoMemory>
 {
     let mut copy = Seq::new(alloc);
     for case in cases {
-        let ranges = copy_list(alloc, case.ranges.items())?;
+        let ranges = case.ranges.try_clone(alloc)?;
         let body = copy_body(alloc, case.body.items())?;
         copy.push(Case { ranges, body })?;
     }
@@ -185,21 +176,4 @@ fn copy_mark(alloc: Global, mark: &Option<Directive>) -> Result<Option<Directive
         None => Ok(None),
         Some(mark) => Ok(Some(mark.try_clone(alloc)?)),
     }
-}
-
-impl TryClone for Sub {
-    fn try_clone(&self, alloc: Global) -> Result<Sub, NoMemory> {
-        self.copy(alloc)
-    }
-}
-
-/// A list of copies.
-pub fn copy_list<T: TryClone>(alloc: Global, items: &[T]) -> Result<Seq<T>, NoMemory>
-    ensures { IfOk result (λ copy. copy ≡ items.now) }
-{
-    let mut copy = Seq::new(alloc);
-    for item in items {
-        copy.push(item.try_clone(alloc)?)?;
-    }
-    Ok(copy)
 }

@@ -1,16 +1,17 @@
+//! Names.
 ghost use Rattle.std.specs.Prelude.{◌≡◌, ◌↔◌, IsTrue, IsSome, IfSome, position, length, ◌≤◌};
 ghost use Rattle.std.specs.List.{list_all};
 ghost use Rattle.std.specs.Str.{bytes_eq};
 ghost use Rattle.fort_tree.specs.Name.{is_name as name_test, is_word_byte as word_byte_test, lowercase, padded, IsName};
 
+use std::hash::{Hash, Hasher};
 use std::marker::Model;
 
-/// The most bytes of a name.
-pub const MAX_LEN: usize = 63;
-
-/// A name in lower case: the first `len` bytes, with zeros behind them.
+/// A name: a letter followed by at most 62 letters, digits or underscores (ISO/IEC 1539-1:2018 6.2.2). Contracts see it as its text in lower case, since case
+/// doesn't count, so equal names are equal values.
 #[derive(Clone, Copy, Debug, Eq)]
 pub struct Name {
+    /// The text, with zeros behind it.
     bytes: [u8; 63],
     len: u8,
 }
@@ -45,8 +46,22 @@ impl PartialEq for Name {
     }
 }
 
+impl Hash for Name {
+    ghost use Rattle.std.proofs.Common.{rules};
+    ghost use Rattle.std.specs.Cmp.Rules.{comparing, hashing};
+    ghost use Rattle.std.specs.Hash as fed;
+
+    ghost hash_input = { fed.slice fed.u8 };
+
+    ghost respects_eq = { Prim.search (hashing, rules) };
+
+    fn hash<H: Hasher>(&self, state: &mut H) {
+        self.text().hash(state);
+    }
+}
+
 impl Name {
-    /// The text in lower case, where it is a name.
+    /// The name that the text is in any case, or `None` exactly where the text is no name.
     pub fn read(text: &[u8]) -> Option<Name>
         ensures some { IsSome result ↔ IsTrue (name_test text.now) }
         ensures value { IfSome result (λ name. name ≡ lowercase text.now) }
@@ -60,6 +75,7 @@ impl Name {
         })
     }
 
+    /// The text, in lower case.
     pub fn text(&self) -> &[u8]
         ensures text { result.now ≡ self.now }
         ensures named { IsName self.now }
