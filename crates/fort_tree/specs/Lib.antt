@@ -8,3 +8,4 @@ pub mod Report
 pub mod Same
 pub mod Seq
 pub mod Token
+pub mod Unplaced

@@ -26,7 +26,7 @@ pub use expr::{Expr, Sub, Unary};
 pub use fault::{Code, Fault, Stop};
 pub use fort_arith::{Intrinsic, Kind, Op};
 pub use intrinsic::ByName;
-pub use laws::sameness_is_reflexive;
+pub use laws::{sameness_is_equality_without_places, sameness_is_reflexive};
 pub use memory::NoMemory;
 pub use name::Name;
 pub use place::Place;

@@ -9,7 +9,7 @@ use crate::{Boxed, Decl, Expr, Head, Kind, Mode, Name, Named, Place, Range, Seq,
 ///
 /// A token is a name; digits of a number of at most 9223372036854775807, with `_1`, `_2`, `_4`, `_8` or nothing behind them; a word between points, as `.true.`;
 /// or an operator or delimiter. Case doesn't count, and the text is kept in lower case.
-#[derive(Debug, Drop)]
+#[derive(Debug, Drop, PartialEq)]
 pub struct Token {
     pub text: Seq<u8>,
     /// The place of its first character.
@@ -18,7 +18,7 @@ pub struct Token {
 }
 
 /// A logical line: a statement, or a directive or mark line, with its continuations joined.
-#[derive(Debug, Drop)]
+#[derive(Debug, Drop, PartialEq)]
 pub struct Line {
     /// The place of the first token.
     pub at: Place,
@@ -41,7 +41,7 @@ pub enum EndWord {
 }
 
 /// A statement by itself, before statements are nested.
-#[derive(Debug, Drop)]
+#[derive(Debug, Drop, PartialEq)]
 pub enum Statement {
     Module(Named),
     Contains,
