@@ -187,24 +187,26 @@ unplaced_sub-roll : (x : Sub-F Expr Sub) → unplaced_sub (roll-Sub x) ≡ roll-
 unplaced_sub-roll x = fold-roll-Sub Expr Sub (λ x. roll-Expr (expr_level_nowhere x)) (λ x. roll-Sub (sub_level_nowhere x)) x
 
 rolled_shows : (x y : Expr-F Expr Sub) → Shows (same_level (tested x) y) (cleared x ≡ cleared y) → Shows (same_expr (roll-Expr x) (roll-Expr y)) (unplaced (roll-Expr x) ≡ unplaced (roll-Expr y))
-rolled_shows x y shows =
-    (λ h. unplaced-roll x ∙ ap roll-Expr (shows.0 (sym (same_expr-roll x y) ∙ h)) ∙ sym (unplaced-roll y),
-     λ e. same_expr-roll x y ∙ shows.1 (sym (out-roll-Expr (cleared x)) ∙ ap out-Expr (sym (unplaced-roll x) ∙ e ∙ unplaced-roll y) ∙ out-roll-Expr (cleared y)))
+rolled_shows x y shows = (
+  λ h. unplaced-roll x ∙ ap roll-Expr (shows.0 (sym (same_expr-roll x y) ∙ h)) ∙ sym (unplaced-roll y),
+  λ e. same_expr-roll x y ∙ shows.1 (sym (out-roll-Expr (cleared x)) ∙ ap out-Expr (sym (unplaced-roll x) ∙ e ∙ unplaced-roll y) ∙ out-roll-Expr (cleared y)),
+)
 
 rolled_sub_shows : (x y : Sub-F Expr Sub) → Shows (same_sub_level (tested_sub x) y) (cleared_sub x ≡ cleared_sub y) → Shows (same_sub (roll-Sub x) (roll-Sub y)) (unplaced_sub (roll-Sub x) ≡ unplaced_sub (roll-Sub y))
-rolled_sub_shows x y shows =
-    (λ h. unplaced_sub-roll x ∙ ap roll-Sub (shows.0 (sym (same_sub-roll x y) ∙ h)) ∙ sym (unplaced_sub-roll y),
-     λ e. same_sub-roll x y ∙ shows.1 (sym (out-roll-Sub (cleared_sub x)) ∙ ap out-Sub (sym (unplaced_sub-roll x) ∙ e ∙ unplaced_sub-roll y) ∙ out-roll-Sub (cleared_sub y)))
+rolled_sub_shows x y shows = (
+  λ h. unplaced_sub-roll x ∙ ap roll-Sub (shows.0 (sym (same_sub-roll x y) ∙ h)) ∙ sym (unplaced_sub-roll y),
+  λ e. same_sub-roll x y ∙ shows.1 (sym (out-roll-Sub (cleared_sub x)) ∙ ap out-Sub (sym (unplaced_sub-roll x) ∙ e ∙ unplaced_sub-roll y) ∙ out-roll-Sub (cleared_sub y)),
+)
 
 judged : (a : Expr) → IsJudged a
 judged =
     ind-Expr IsJudged IsJudgedSub
     (λ x y is. subst (λ x. IsJudged (roll-Expr x)) is (λ b.
-        subst (λ b. Shows (same_expr (roll-Expr (plain y)) b) (unplaced (roll-Expr (plain y)) ≡ unplaced b)) (roll-out-Expr b)
-        (rolled_shows (plain y) (out-Expr b) (level_shows y (out-Expr b)))))
+    subst (λ b. Shows (same_expr (roll-Expr (plain y)) b) (unplaced (roll-Expr (plain y)) ≡ unplaced b)) (roll-out-Expr b)
+    (rolled_shows (plain y) (out-Expr b) (level_shows y (out-Expr b)))))
     (λ x y is. subst (λ x. IsJudgedSub (roll-Sub x)) is (λ b.
-        subst (λ b. Shows (same_sub (roll-Sub (plain_sub y)) b) (unplaced_sub (roll-Sub (plain_sub y)) ≡ unplaced_sub b)) (roll-out-Sub b)
-        (rolled_sub_shows (plain_sub y) (out-Sub b) (sub_level_shows y (out-Sub b)))))
+    subst (λ b. Shows (same_sub (roll-Sub (plain_sub y)) b) (unplaced_sub (roll-Sub (plain_sub y)) ≡ unplaced_sub b)) (roll-out-Sub b)
+    (rolled_sub_shows (plain_sub y) (out-Sub b) (sub_level_shows y (out-Sub b)))))
 
 pub same_expr-unplaced : (a b : Expr) → (same_expr a b ≡ true) ↔ (unplaced a ≡ unplaced b)
 same_expr-unplaced a b = judged a b

@@ -1,5 +1,6 @@
 pub mod formers
 pub mod Code
+pub mod Examples
 pub mod Expr
 pub mod Intrinsic
 pub mod Name

@@ -26,7 +26,10 @@ pub use expr::{Expr, Sub, Unary};
 pub use fault::{Code, Fault, Stop};
 pub use fort_arith::{Intrinsic, Kind, Op};
 pub use intrinsic::ByName;
-pub use laws::{sameness_is_equality_without_places, sameness_is_reflexive};
+pub use laws::{
+    reports_by_example, sameness_is_equality_without_places, sameness_is_reflexive,
+    tokens_by_example,
+};
 pub use memory::NoMemory;
 pub use name::Name;
 pub use place::Place;
@@ -34,3 +37,6 @@ pub use seq::Seq;
 pub use statement::{EndWord, Line, Statement, Token};
 pub use stmt::{Arm, Case, Directive, DirectiveWord, Head, Named, Range, Stmt};
 pub use unit::{Bound, Decl, File, Intent, Item, Module, Unit, Use};
+
+#[cfg(test)]
+mod tests;

@@ -117,4 +117,3 @@ fn in_lower_case(text: &[u8]) -> [u8; 63]
     start.make_ascii_lowercase();
     bytes
 }
-

@@ -55,8 +55,8 @@ module _ (R S : RattleType) (h : R.Denot → S.Denot) (a : Alike R S h) where
 
   pub the_places : Alike (boxed.the_row R) (boxed.the_row S) ((the_former this).map R.Denot S.Denot h)
   the_places =
-    let within = struct_places (inside.the_type R) (inside.the_type S) ((λ b. around b (h b.value)), tt) _ (λ b. refl) refl (laid _ _ _ inner_places, tt) in
-    view_places field this view (λ X Y k b. refl) (λ X b. refl) R.Denot S.Denot h (boxed.the_row R).coded (boxed.the_row S).coded
+      let within = struct_places (inside.the_type R) (inside.the_type S) ((λ b. around b (h b.value)), tt) _ (λ b. refl) refl (laid _ _ _ inner_places, tt) in
+      view_places field this view (λ X Y k b. refl) (λ X b. refl) R.Denot S.Denot h (boxed.the_row R).coded (boxed.the_row S).coded
       (invariant R.Denot) (invariant S.Denot) (λ b p q. refl) (λ b p q. refl) (λ b t. tt) (λ b t. tt)
       (over (inside.the_row R)) (over (inside.the_row S)) within
 

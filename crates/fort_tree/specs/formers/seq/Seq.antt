@@ -41,9 +41,9 @@ field = via (vec.the_former this Global) Inside (λ X s. s.items) (λ X v. recor
 module _ (R S : RattleType) (h : R.Denot → S.Denot) where
   pub the_places : Alike R S h → Alike (seq.the_row R) (seq.the_row S) ((the_former this).map R.Denot S.Denot h)
   the_places a =
-    let within = struct_places (inside.the_type R) (inside.the_type S) (vec.mapped h, tt) _ (λ s. refl) refl
-        (laid _ _ _ (vec.the_places global.the_row ghosts R S h a), tt) in
-    view_places field (list this) view (λ X Y k s. refl) (λ X s. refl) R.Denot S.Denot h (seq.the_row R).coded (seq.the_row S).coded
+      let within = struct_places (inside.the_type R) (inside.the_type S) (vec.mapped h, tt) _ (λ s. refl) refl
+      (laid _ _ _ (vec.the_places global.the_row ghosts R S h a), tt) in
+      view_places field (list this) view (λ X Y k s. refl) (λ X s. refl) R.Denot S.Denot h (seq.the_row R).coded (seq.the_row S).coded
       (invariant R.Denot) (invariant S.Denot) (λ s p q. refl) (λ s p q. refl) (λ s t. tt) (λ s t. tt)
       (over (inside.the_row R)) (over (inside.the_row S)) within
 
