@@ -15,8 +15,8 @@ use Rattle.fort_tree.specs.declared.expr.Sub.{Sub}
 use Rattle.fort_tree.specs.declared.expr.Expr.TheOpen.{Expr-F, Sub-F}
 use Rattle.fort_tree.specs.declared.expr.Expr.TheViews.{out-Expr, out-Sub, roll-Expr, roll-Sub, out-roll-Expr, out-roll-Sub, roll-out-Expr, roll-out-Sub}
 use Rattle.fort_tree.specs.declared.expr.Expr.TheFolds.{fold-roll-Expr, fold-roll-Sub, map-Expr, map-Sub, ind-Expr}
-use Rattle.fort_tree.specs.Same.{same_level, same_sub_level, same_expr, same_sub, same_list, same_option, same_subs, same_kind, same_bool}
-use Rattle.fort_tree.specs.Unplaced.{nowhere, expr_level_nowhere, sub_level_nowhere, unplaced, unplaced_sub}
+use Rattle.fort_tree.specs.Same.{same_level, same_sub_level, same_expr, same_sub, same_list, same_option, same_kind, same_bool}
+use Rattle.fort_tree.specs.Unplaced.{expr_level_nowhere, sub_level_nowhere, unplaced, unplaced_sub}
 
 -- ---- tests that show a fact
 

@@ -1,5 +1,4 @@
 -- How a `Boxed` holds its value, for the trees that hold themselves through one. Seen from outside a `Boxed` is that value; inside it is one `Box`.
-use Rattle.std.specs.Prelude.{◌≡◌}
 use mathlib.Core.Path.{refl}
 use mathlib.Core.Former.{Former, this, const, pair, via}
 use base.Fml.{ftrue}
