@@ -1,0 +1,12 @@
+pub mod formers
+pub mod Code
+pub mod Examples
+pub mod Expr
+pub mod Intrinsic
+pub mod Name
+pub mod Part
+pub mod Report
+pub mod Same
+pub mod Seq
+pub mod Token
+pub mod Unplaced
