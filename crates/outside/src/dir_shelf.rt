@@ -29,6 +29,7 @@ impl<'a, R> Model for DirShelf<'a, R> {
 }
 
 impl<'a, R: Files> DirShelf<'a, R> {
+    /// A shelf over the files of the runtime, with no fault and nothing read.
     pub fn new(rt: &'a R) -> DirShelf<'a, R>
         ensures { result ≡ record { faults = 0; bytes_read = 0 } }
     {

@@ -44,12 +44,14 @@ impl FileList {
         }
     }
 
+    /// How many files are listed.
     pub fn len(&self) -> usize
         ensures { result ≡ length self.now }
     {
         self.items.len()
     }
 
+    /// Whether no file is listed.
     pub fn is_empty(&self) -> bool
         ensures { IsTrue result ↔ (self.now ≡ []) }
     {

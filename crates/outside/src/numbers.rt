@@ -26,12 +26,14 @@ impl Numbers {
         }
     }
 
+    /// How many numbers are listed.
     pub fn len(&self) -> usize
         ensures { result ≡ length self.now }
     {
         self.items.len()
     }
 
+    /// Whether no number is listed.
     pub fn is_empty(&self) -> bool
         ensures { IsTrue result ↔ (self.now ≡ []) }
     {

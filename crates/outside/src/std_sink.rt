@@ -25,6 +25,7 @@ impl<W> Model for StdSink<W> {
 }
 
 impl<W: Write + Drop> StdSink<W> {
+    /// A sink over the writer, with no fault.
     pub fn new(writer: W) -> StdSink<W>
         ensures { result ≡ 0 }
     {

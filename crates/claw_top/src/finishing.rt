@@ -1,0 +1,40 @@
+// What is put.
+ghost use Rattle.std.specs.Prelude.{◌≡◌, OnOk, OnErr};
+ghost use Rattle.claw_top.specs.Outcome.{answer_of};
+ghost use Rattle.claw_top.specs.Ending.{PutsWhere};
+
+use crate::end::End;
+use crate::reporting::{put_report, put_unreadable};
+use outside::{Failed, Sink, put_all};
+
+// Puts the text of an end where it goes, and gives its status, or 4 where that sink failed. It takes no
+// memory.
+pub(crate) fn finish<O: Sink, E: Sink>(end: &End<'_>, out: &mut O, err: &mut E) -> u8
+    ensures { PutsWhere O.taken O.faults out.old out.new E.taken E.faults err.old err.new (answer_of end.now) result }
+{
+    match end {
+        End::Text(text) => status_of(put_all(out, text), 0),
+        End::Fault(name, line) => status_of(put_report(name, *line, err), 1),
+        End::Usage => status_of(
+            put_all(
+                err,
+                b"usage: claw translate, check, run, run-target or gen\n",
+            ),
+            2,
+        ),
+        End::CannotRead(name) => status_of(put_unreadable(name, err), 3),
+        End::TooLong => status_of(put_all(err, b"too long\n"), 9),
+        End::NoMemory => status_of(put_all(err, b"no memory\n"), 6),
+    }
+}
+
+// The status where the put succeeded, and else 4.
+fn status_of(put: Result<(), Failed>, status: u8) -> u8
+    ensures ok { OnOk put (result ≡ status) }
+    ensures failed { OnErr put (result ≡ 4) }
+{
+    match put {
+        Ok(()) => status,
+        Err(_) => 4,
+    }
+}
