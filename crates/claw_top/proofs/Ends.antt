@@ -6,6 +6,7 @@ use Rattle.std.specs.declared.result.Result.{Result}
 use Rattle.outside.specs.Counts.{Rose}
 use Rattle.outside.specs.Files.{Files, file_at, Lacks}
 use Rattle.outside.specs.Taken.{Took, TookPrefix}
+use Rattle.fort_spell.specs.Units.{layout_of}
 use Rattle.claw_top.specs.Limits.{most_bytes}
 use Rattle.claw_top.specs.Compile.{Compiles}
 use Rattle.claw_top.specs.Answer.{Answer, cannot_read, too_long, report_of}
@@ -13,7 +14,7 @@ use Rattle.claw_top.specs.Outcome.{answer_of}
 use Rattle.claw_top.specs.Cause.{HasCause}
 use Rattle.claw_top.specs.Ending.{Puts, PutsWhere, Stood, Headline, AnswersFile, MayTell, MayAnswer}
 use Rattle.claw_top.specs.declared.end.End.{End}
-use Rattle.claw_top.specs.declared.end.End.TheVariants.{Text, Fault, Usage, CannotRead, TooLong, NoMemory}
+use Rattle.claw_top.specs.declared.end.End.TheVariants.{Program, Fault, Usage, CannotRead, TooLong, NoMemory}
 
 pub IfSome-at : {T : Type 0} → (o : Option T) (x : T) (P : T → Type 0) → Some x ≡ o → P x → IfSome o P
 IfSome-at {T} o x P is p = subst (λ (o : Option T). IfSome o P) is p
@@ -31,8 +32,8 @@ puts_of (Err e) status code text taken_before taken_now before now ok failed too
 -- An end with its cause has an answer with its cause.
 pub may_answer : (files : Option Files) (before now read_before read_now : ℕ) (name : List ℕ) (end : End)
     → HasCause files before now read_before read_now name end → MayAnswer files before now read_before read_now name (answer_of end)
-may_answer files before now read_before read_now name (Text text) (source, read, compiles) =
-    inr (inr (inr (source, read, record { outcome = Ok text.items; compiles = compiles; is = refl })))
+may_answer files before now read_before read_now name (Program program) (source, read, compiles) =
+    inr (inr (inr (source, read, record { outcome = Ok (layout_of program); compiles = compiles; is = refl })))
 may_answer files before now read_before read_now name (Fault file line) (named, (source, read, compiles)) =
     inr (inr (inr (source, read, record { outcome = Err line; compiles = compiles; is = ap (λ (n : List ℕ). (1, report_of n line)) named })))
 may_answer files before now read_before read_now name Usage cause = absurd cause
@@ -47,9 +48,9 @@ longer name (Some text) more = inl (more, refl)
 -- Over told files the answer is one for them, unless memory was refused or the shelf failed.
 pub may_tell : (files : Files) (before now read_before read_now : ℕ) (name : List ℕ) (end : End)
     → HasCause (Some files) before now read_before read_now name end → MayTell files before now name (answer_of end)
-may_tell files before now read_before read_now name (Text text) (source, read, compiles) =
-    inr (inr (subst (λ (file : Option (List ℕ)). AnswersFile name file (0, text.items)) (sym read.told)
-    (inr (read.small, record { outcome = Ok text.items; compiles = compiles; is = refl }))))
+may_tell files before now read_before read_now name (Program program) (source, read, compiles) =
+    inr (inr (subst (λ (file : Option (List ℕ)). AnswersFile name file (0, layout_of program)) (sym read.told)
+    (inr (read.small, record { outcome = Ok (layout_of program); compiles = compiles; is = refl }))))
 may_tell files before now read_before read_now name (Fault file line) (named, (source, read, compiles)) =
     inr (inr (subst (λ (found : Option (List ℕ)). AnswersFile name found (1, report_of file.now line)) (sym read.told)
     (inr (read.small, record { outcome = Err line; compiles = compiles; is = ap (λ (n : List ℕ). (1, report_of n line)) named }))))
@@ -67,8 +68,8 @@ pub unreadable_of : {O E : Type 0} (out_taken : O → Option (List ℕ)) (out_fa
     → HasCause files before now read_before read_now name end
     → PutsWhere out_taken out_faults out_before out_now err_taken err_faults err_before err_now (answer_of end) status → status ≡ 3
     → (Rose before now ⊎ Lacks files name) × Took (err_taken err_before) (err_taken err_now) (cannot_read name).1
-unreadable_of out_taken out_faults out_before out_now err_taken err_faults err_before err_now files before now read_before read_now name (Text text) status cause (same, inl put) three = absurd (omega (arith, put.0, three))
-unreadable_of out_taken out_faults out_before out_now err_taken err_faults err_before err_now files before now read_before read_now name (Text text) status cause (same, inr put) three = absurd (omega (arith, put.0, three))
+unreadable_of out_taken out_faults out_before out_now err_taken err_faults err_before err_now files before now read_before read_now name (Program program) status cause (same, inl put) three = absurd (omega (arith, put.0, three))
+unreadable_of out_taken out_faults out_before out_now err_taken err_faults err_before err_now files before now read_before read_now name (Program program) status cause (same, inr put) three = absurd (omega (arith, put.0, three))
 unreadable_of out_taken out_faults out_before out_now err_taken err_faults err_before err_now files before now read_before read_now name (Fault file line) status cause (same, inl put) three = absurd (omega (arith, put.0, three))
 unreadable_of out_taken out_faults out_before out_now err_taken err_faults err_before err_now files before now read_before read_now name (Fault file line) status cause (same, inr put) three = absurd (omega (arith, put.0, three))
 unreadable_of out_taken out_faults out_before out_now err_taken err_faults err_before err_now files before now read_before read_now name Usage status cause put three = absurd cause
@@ -99,9 +100,9 @@ headline_with : {O E : Type 0} (out_taken : O → Option (List ℕ)) (out_faults
     → PutsWhere out_taken out_faults out_before out_now err_taken err_faults err_before err_now (answer_of end) status
     → length source ≤ most_bytes → Stood before now → Stood (out_faults out_before) (out_faults out_now) → Stood (err_faults err_before) (err_faults err_now) → status ≢ 6
     → Headline name source status (out_taken out_before) (out_taken out_now) (err_taken err_before) (err_taken err_now)
-headline_with out_taken out_faults out_before out_now err_taken err_faults err_before err_now files before now read_before read_now name source (Text text) status is (bytes, read, compiles) (same, inl put) small stood out_stood err_stood memory =
-    inl (text.items, subst (λ (s : List ℕ). Compiles s (Ok text.items)) (same_source _ bytes source read.told is) compiles, put.0, put.1, ap err_taken same)
-headline_with out_taken out_faults out_before out_now err_taken err_faults err_before err_now files before now read_before read_now name source (Text text) status is cause (same, inr failed) small stood out_stood err_stood memory =
+headline_with out_taken out_faults out_before out_now err_taken err_faults err_before err_now files before now read_before read_now name source (Program program) status is (bytes, read, compiles) (same, inl put) small stood out_stood err_stood memory =
+    inl (layout_of program, subst (λ (s : List ℕ). Compiles s (Ok (layout_of program))) (same_source _ bytes source read.told is) compiles, put.0, put.1, ap err_taken same)
+headline_with out_taken out_faults out_before out_now err_taken err_faults err_before err_now files before now read_before read_now name source (Program program) status is cause (same, inr failed) small stood out_stood err_stood memory =
     absurd (out_stood failed.1)
 headline_with out_taken out_faults out_before out_now err_taken err_faults err_before err_now files before now read_before read_now name source (Fault file line) status is (named, (bytes, read, compiles)) (same, inl put) small stood out_stood err_stood memory =
     inr (

@@ -3,10 +3,11 @@ use Rattle.std.specs.Prelude.{◌≡◌, ℕ, ◌+◌, ◌-◌, ◌^◌, ◌≤�
 use Rattle.std.specs.declared.option.Option.{Option}
 use Rattle.outside.specs.Counts.{Rose}
 use Rattle.outside.specs.Files.{Files, file_at, Lacks, MayBeTooLong}
+use Rattle.fort_spell.specs.Units.{layout_of}
 use Rattle.claw_top.specs.Limits.{most_bytes}
 use Rattle.claw_top.specs.Compile.{Compiles}
 use Rattle.claw_top.specs.declared.end.End.{End}
-use Rattle.claw_top.specs.declared.end.End.TheVariants.{Text, Fault, Usage, CannotRead, TooLong, NoMemory}
+use Rattle.claw_top.specs.declared.end.End.TheVariants.{Program, Fault, Usage, CannotRead, TooLong, NoMemory}
 
 -- The named file was read whole, and these are its bytes: where files are told, those of the told one.
 pub record WasRead (files : Option Files) (read_before read_now : ℕ) (name source : List ℕ) : Type 0 where
@@ -16,8 +17,8 @@ pub record WasRead (files : Option Files) (read_before read_now : ℕ) (name sou
 
 -- An end has its cause.
 abbrev pub HasCause : Option Files → ℕ → ℕ → ℕ → ℕ → List ℕ → End → Type 0
-HasCause files before now read_before read_now name (Text text) =
-    (source : List ℕ) × WasRead files read_before read_now name source × Compiles source (Ok text.items)
+HasCause files before now read_before read_now name (Program file) =
+    (source : List ℕ) × WasRead files read_before read_now name source × Compiles source (Ok (layout_of file))
 HasCause files before now read_before read_now name (Fault file line) =
     (file.now ≡ name) × ((source : List ℕ) × WasRead files read_before read_now name source × Compiles source (Err line))
 HasCause files before now read_before read_now name Usage = ⊥

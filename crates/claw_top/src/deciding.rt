@@ -26,7 +26,7 @@ pub(crate) fn decide<'a, F: Shelf>(alloc: Global, name: &'a str, shelf: &mut F) 
         Ok(()) => {}
     }
     match compile(alloc, &source) {
-        Ok(Compiled::Text(text)) => End::Text(text),
+        Ok(Compiled::Program(file)) => End::Program(file),
         Ok(Compiled::Fault(line)) => End::Fault(name, line),
         Err(_) => End::NoMemory,
     }

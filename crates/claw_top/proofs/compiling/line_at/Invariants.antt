@@ -1,6 +1,0 @@
-use Rattle.std.proofs.Common.{◌≡◌, ◌+◌, ◌==◌, take}
-use Rattle.std.specs.Prelude.{count_by}
-use Rattle.claw_top.proofs.compiling.line_at.Given as goal
-
-abbrev pub invariant-loop-byte : goal.invariant-loop-byte
-invariant-loop-byte l = l.line ≡ 1 + count_by (λ byte. byte == 10) (take l.byte-index l.before)

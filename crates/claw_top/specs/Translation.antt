@@ -1,0 +1,43 @@
+-- What a translated text owes its source.
+use Rattle.std.specs.Prelude.{◌≡◌, ℕ, List, [], ◌∷◌, Bool, false}
+use Rattle.fort_tree.specs.declared.choice.Target.TheVariants.{Cpu}
+use Rattle.fort_tree.specs.declared.choice.Directives.TheVariants.{Plain}
+use Rattle.fort_tree.specs.declared.unit.File.{File}
+use Rattle.fort_tree.specs.declared.unit.Item.TheVariants as item
+use Rattle.fort_tree.specs.declared.unit.Unit.{Unit as TreeUnit}
+use Rattle.courses.specs.Plans.{Plan}
+use Rattle.claw_meaning.specs.Syntax.{Text}
+use Rattle.claw_meaning.specs.Plain.{plain_file}
+use Rattle.claw_meaning.specs.Interface.{Interface}
+use Rattle.claw_meaning.specs.Erasure.{Erased}
+use Rattle.claw_meaning.specs.Spread.{Spread}
+use Rattle.claw_meaning.specs.Kept.{Kept}
+use Rattle.fort_spell.specs.Units.{layout_of}
+use Rattle.claw_top.specs.declared.reading.Reading.TheVariants.{Empty, Unit as TheUnit, Refused}
+use Rattle.claw_top.specs.ReadingText.{IsReading}
+
+-- the program of no unit, and of one external unit
+abbrev pub no_unit : File
+no_unit = record { modules = []; units = []; order = [] }
+
+abbrev pub one_unit : TreeUnit → File
+one_unit u = record { modules = []; units = u ∷ []; order = item.Unit 0 ∷ [] }
+
+-- The source spells this program. The files of a request are numbered from 0.
+pub data IsSpelled (source : List ℕ) : File → Type 0 where
+  nothing : IsReading 0 source Empty → IsSpelled source no_unit
+  unit : (u : TreeUnit) → IsReading 0 source (TheUnit u) → IsSpelled source (one_unit u)
+
+-- The source spells one program, and the text is the layout of another. That one has the interface of the source's program
+-- with its wide variables, erases to it, and has its loops over the columns where they must stand; and for every number of
+-- columns, every well-typed input and every order of parallel iterations it keeps what the source's program does.
+pub record Translation (source text : List ℕ) : Type 0 where
+  pub directed : File
+  pub written : File
+  pub wide : ℕ → Text → Bool
+  pub spelled : IsSpelled source directed
+  pub layout : text ≡ layout_of written
+  pub interface : Interface (plain_file directed) (plain_file written) wide
+  pub erased : Erased (plain_file directed) (plain_file written) wide
+  pub spread : Spread (plain_file directed) (plain_file written) wide (λ i x. false) Cpu Plain
+  pub kept : (plan : Plan) → Kept (plain_file directed) (plain_file written) plan
