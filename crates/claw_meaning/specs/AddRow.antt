@@ -23,7 +23,10 @@ body_of a b = Assign b (Binary Add b (Binary Mul a (numeral 2)))
 
 abbrev pub source_unit : Unit
 source_unit = record {
-  name = codes "add"; dummies = codes "a" ∷ codes "b" ∷ []; result = None; uses = [];
+  name = codes "add";
+  dummies = codes "a" ∷ codes "b" ∷ [];
+  result = None;
+  uses = [];
   decls = scalar (codes "a") (Some In) ∷ scalar (codes "b") (Some InOut) ∷ [];
   marks = directive ∷ record directive { word = Parallelize; names = codes "a" ∷ codes "b" ∷ []; lower = None; upper = None } ∷ [];
   body = Then (body_of (Name (codes "a")) (Name (codes "b"))) Done;
@@ -44,13 +47,16 @@ in_column x = Reference x (At (Name (codes "col")) No_more)
 
 abbrev pub target_unit : Option Directive → Unit
 target_unit mark = record {
-  name = codes "add"; dummies = codes "a" ∷ codes "b" ∷ codes "ncol" ∷ []; result = None; uses = [];
+  name = codes "add";
+  dummies = codes "a" ∷ codes "b" ∷ codes "ncol" ∷ [];
+  result = None;
+  uses = [];
   decls = scalar (codes "ncol") (Some In) ∷ wide_decl (codes "a") (Some In) ∷ wide_decl (codes "b") (Some InOut) ∷ scalar (codes "col") None ∷ [];
   marks = [];
   body =
-    Then (If (Arm (Binary Lt (Name (codes "ncol")) (numeral 1)) (Then Return Done) No_arm) Nothing_else)
-    (Then (Do (record { variable = codes "col"; from = numeral 1; to = Name (codes "ncol"); step = None }) (Then (body_of (in_column (codes "a")) (in_column (codes "b"))) Done) mark)
-    Done);
+      Then (If (Arm (Binary Lt (Name (codes "ncol")) (numeral 1)) (Then Return Done) No_arm) Nothing_else)
+      (Then (Do (record { variable = codes "col"; from = numeral 1; to = Name (codes "ncol"); step = None }) (Then (body_of (in_column (codes "a")) (in_column (codes "b"))) Done) mark)
+      Done);
   host = None;
 }
 

@@ -224,8 +224,14 @@ bare_reading p u = record { rank = rank_in p u; lost = λ x. None; id = None; co
 -- a unit of the directed source without places, `define`, `parallelize` and `forward`
 abbrev pub bare_unit : Program → Unit → Unit
 bare_unit p u = record {
-  name = u.name; dummies = u.dummies; result = u.result; uses = u.uses; decls = grouped u u.decls; marks = [];
-  body = read_stmts (bare_reading p u) u.body; host = u.host;
+  name = u.name;
+  dummies = u.dummies;
+  result = u.result;
+  uses = u.uses;
+  decls = grouped u u.decls;
+  marks = [];
+  body = read_stmts (bare_reading p u) u.body;
+  host = u.host;
 }
 
 abbrev pub lost_place : Widening → Text → Option ℕ
@@ -258,9 +264,14 @@ behind_guard false body = body
 -- directed source's unit
 abbrev pub erased_unit : Program → Unit → Widening → Unit → Unit
 erased_unit p u w t = record {
-  name = t.name; dummies = filter (λ x. not (is_text w.added x)) t.dummies; result = t.result; uses = t.uses;
-  decls = map (narrow w) (filter (λ d. was_there u w d.name) t.decls); marks = [];
-  body = read_stmts (erased_reading p u w) (behind_guard (is_column_unit u) t.body); host = t.host;
+  name = t.name;
+  dummies = filter (λ x. not (is_text w.added x)) t.dummies;
+  result = t.result;
+  uses = t.uses;
+  decls = map (narrow w) (filter (λ d. was_there u w d.name) t.decls);
+  marks = [];
+  body = read_stmts (erased_reading p u w) (behind_guard (is_column_unit u) t.body);
+  host = t.host;
 }
 
 -- Erasing the target gives the bare directed source.

@@ -37,8 +37,12 @@ lower_in (Some d) = d.lower
 -- the widening of a column unit, by its wide variables
 abbrev pub widening : Program → Unit → (Text → Bool) → Widening
 widening p u wide = record {
-  wide = wide; place = place_of u; id = id_of (directive_of is_word_define u.marks);
-  lower = lower_in (directive_of is_word_define u.marks); upper = upper_written u; added = added_dummy p u;
+  wide = wide;
+  place = place_of u;
+  id = id_of (directive_of is_word_define u.marks);
+  lower = lower_in (directive_of is_word_define u.marks);
+  upper = upper_written u;
+  added = added_dummy p u;
 }
 
 -- a unit that is no column unit has no wide variables

@@ -78,8 +78,14 @@ plain_range (range.Span lower upper) = plain.Span (plain_option lower) (plain_op
 
 abbrev pub plain_directive : Directive → plain.Directive
 plain_directive d = record {
-  word = d.word; names = d.names; over = d.over; number = d.number; group = d.group; init = d.init;
-  lower = plain_option d.lower; upper = plain_option d.upper;
+  word = d.word;
+  names = d.names;
+  over = d.over;
+  number = d.number;
+  group = d.group;
+  init = d.init;
+  lower = plain_option d.lower;
+  upper = plain_option d.upper;
 }
 
 abbrev pub in_a_row : List plain.Stmt → plain.Stmts
@@ -135,8 +141,14 @@ plain_use u = record { name = u.name; only = option_map (map (λ n. n.name)) u.o
 
 abbrev pub plain_unit : unit.Unit → plain.Unit
 plain_unit u = record {
-  name = u.name; dummies = map (λ d. d.name) u.dummies; result = option_map (λ r. r.name) u.result; uses = map plain_use u.uses;
-  decls = map plain_decl u.decls; marks = map plain_directive u.marks; body = plain_stmts u.body; host = u.host;
+  name = u.name;
+  dummies = map (λ d. d.name) u.dummies;
+  result = option_map (λ r. r.name) u.result;
+  uses = map plain_use u.uses;
+  decls = map plain_decl u.decls;
+  marks = map plain_directive u.marks;
+  body = plain_stmts u.body;
+  host = u.host;
 }
 
 abbrev pub plain_module : host.Module → plain.Module

@@ -12,7 +12,6 @@ use Rattle.courses.specs.Element.{Value, Undefined, Whole}
 use Rattle.claw_meaning.specs.Syntax.{Text, Expr, Numeral, Name, Reference, Signed, Binary, Subscripts, No_more, At, Section, Limit, Unbounded, Bounded, Dimension, Decl, Directive, Head, Range, Single, Span, Stmt, Assign, Call, If, Select, Do, Exit, Return, Stmts, Done, Then, Arms, No_arm, Arm, Cases, No_case, Case, Otherwise, Nothing_else, Else, Unit, Program, Item, A_unit}
 use Rattle.claw_meaning.specs.Frames.{Frame, Held, Key, Cells}
 
-
 abbrev pub number : ℕ → Expr
 number n = Numeral n None
 
@@ -127,8 +126,8 @@ twice = function_of (codes "twice") (codes "a" ∷ []) (codes "twice") (scalar (
 abbrev pub choosing : Unit
 choosing = unit_of (codes "choosing") (codes "x" ∷ codes "s" ∷ []) (scalar (codes "x") (Some In) ∷ scalar (codes "s") (Some Out) ∷ [])
     (Select (Reference (codes "twice") (At x No_more))
-      (Case (Single (Signed Minus (number 2)) ∷ Span (Some (number 3)) (Some (number 5)) ∷ []) (statements (Assign s (number 10) ∷ [])) No_case)
-      (Else (statements (Assign s (number 20) ∷ []))) ∷ [])
+    (Case (Single (Signed Minus (number 2)) ∷ Span (Some (number 3)) (Some (number 5)) ∷ []) (statements (Assign s (number 10) ∷ [])) No_case)
+    (Else (statements (Assign s (number 20) ∷ []))) ∷ [])
 
 -- m = 1/n and s = s + m
 abbrev pub dividing : Unit

@@ -430,7 +430,11 @@ is_acc other = false
 abbrev pub spreading : Program → Unit → Widening → Target → Directives → (Text → Bool) → Spreading
 spreading p u w how kind is_private = record {
   columns = record { wide = w.wide; is_column = column_called p u };
-  how = how; kind = kind; widening = w; reading = erased_reading p u w; is_private = is_private;
+  how = how;
+  kind = kind;
+  widening = w;
+  reading = erased_reading p u w;
+  is_private = is_private;
 }
 
 -- Column loops in every column unit, marks on them alone, and `routine seq` in just the units reached from column loops,

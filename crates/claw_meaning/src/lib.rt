@@ -5,6 +5,10 @@
 
 mod laws;
 mod rows;
+#[cfg(test)]
+mod tests;
 
-pub use laws::{frames_are_stores, orderly_runs_agree, runs_are_apart, runs_are_local, runs_can_move};
+pub use laws::{
+    frames_are_stores, orderly_runs_agree, runs_are_apart, runs_are_local, runs_can_move,
+};
 pub use rows::{lost_update, scalars_in_columns, small_runs};

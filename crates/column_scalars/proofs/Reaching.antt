@@ -78,6 +78,6 @@ varies u w x t =
 
 pub dummies_vary : (u : Scalars) → IsScalars u → AreWide (program_of (source_unit u)) (source_unit u) (λ x. is_listed u.dummies x)
 dummies_vary u w x = (
-    (λ h. varies u w x (in_list u.dummies x h)),
-    (λ r. listed_here u.dummies x (from_reached (roots_of (program_of (source_unit u)) (source_unit u)) (pairs_of (program_of (source_unit u)) (source_unit u)) (Contains u.dummies) (from_root u) (from_pair u w) x r)),
+  (λ h. varies u w x (in_list u.dummies x h)),
+  (λ r. listed_here u.dummies x (from_reached (roots_of (program_of (source_unit u)) (source_unit u)) (pairs_of (program_of (source_unit u)) (source_unit u)) (Contains u.dummies) (from_root u) (from_pair u w) x r)),
 )

@@ -75,8 +75,14 @@ pub record Scalars : Type 0 where
 
 abbrev pub source_unit : Scalars → Unit
 source_unit u = record {
-  name = u.name; dummies = u.dummies; result = None; uses = []; decls = decls_of u.declared;
-  marks = define u.id u.lower u.upper ∷ parallelize u.listed ∷ []; body = assignments u.assigned; host = None;
+  name = u.name;
+  dummies = u.dummies;
+  result = None;
+  uses = [];
+  decls = decls_of u.declared;
+  marks = define u.id u.lower u.upper ∷ parallelize u.listed ∷ [];
+  body = assignments u.assigned;
+  host = None;
 }
 
 abbrev pub Distinct : List Text → Type 0
@@ -160,7 +166,12 @@ local_decl id = record { name = id; kind = I4; intent = None; shape = []; value 
 
 abbrev pub wide_unit : Scalars → Unit
 wide_unit u = record {
-  name = u.name; dummies = u.dummies ++ u.upper ∷ []; result = None; uses = [];
+  name = u.name;
+  dummies = u.dummies ++ u.upper ∷ [];
+  result = None;
+  uses = [];
   decls = dummy_decl u.upper In ∷ (wide_decls u.lower u.upper u.declared ++ local_decl u.id ∷ []);
-  marks = []; body = Then (guard u.lower u.upper) (looped u.lower u.upper u.id u.assigned); host = None;
+  marks = [];
+  body = Then (guard u.lower u.upper) (looped u.lower u.upper u.id u.assigned);
+  host = None;
 }
