@@ -1,4 +1,4 @@
--- A run from a store that agrees on what it reads.
+-- Locality: from a store that agrees on what is read, an interaction does the same; what it does not write stays.
 use Rattle.std.proofs.Common.{◌≡◌, ℕ, suc, refl, ap, sym, ◌∙◌, subst, ◌∷◌, Bool, true, false, ◌||◌}
 use Rattle.courses.specs.Element.{Value, Element, same_element, Store, put}
 use Rattle.courses.specs.Interaction.{Reads, Writes, Announces, Interaction, Done, Trap, Read, Write, Order, Announce, Orders, answer_of, next_of, log_of, store_of}
@@ -43,7 +43,7 @@ pub put_equal : (s s' : Store) (x : Element) (v : Value) (e : Element) → same_
 unfolding put
 put_equal s s' x v e h = rw h
 
--- what holds where nothing was written, and where the run wrote
+-- what holds where nothing was written, and where it wrote
 written_after : {A : Type 0} (r : Interaction A) (o : Orders) (j : ℕ) (s s' : Store) (x : Element) (first : Bool) → Alike r o j s s' → (first ≡ true → s' x ≡ s x) → first || is_written (log_of r o s j) x ≡ true → store_of r o s' j x ≡ store_of r o s j x
 written_after r o j s s' x first a h w = go (is_written (log_of r o s j) x) refl
   where

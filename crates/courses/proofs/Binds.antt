@@ -1,4 +1,4 @@
--- What a run does where one follows another.
+-- What an interaction followed by another does: where the first ends with an answer, and where it traps.
 use Rattle.std.proofs.Common.{◌≡◌, ℕ, suc, refl, ap, ◌∷◌, ◌++◌, Some, None}
 use Rattle.courses.specs.Element.{Store, put, nobody}
 use Rattle.courses.specs.Interaction.{Reads, Writes, Announces, Interaction, Done, Trap, Read, Write, Order, Announce, bind, Orders, answer_of, next_of, log_of, store_of}
@@ -44,7 +44,7 @@ stops (Write e v r) k o s j h = let t = stops r k o (put s e v) j h in record { 
 stops (Order n f) k o s j h = let t = stops (f (o j n)) k o s (suc j) h in record { answer = t.answer; next = t.next; store = t.store; log = t.log }
 stops (Announce u r) k o s j h = let t = stops r k o s j h in record { answer = t.answer; next = t.next; store = t.store; log = ap (λ l. Announces u ∷ l) t.log }
 
--- a run without what it says ends alike
+-- an interaction without what it announces does the same
 pub record Hushes {A : Type 0} (r : Interaction A) (o : Orders) (s : Store) (j : ℕ) : Type 0 where
   pub answer : answer_of (hushed r) o s j ≡ answer_of r o s j
   pub store : store_of (hushed r) o s j ≡ store_of r o s j

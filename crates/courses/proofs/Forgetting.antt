@@ -9,7 +9,6 @@ use Rattle.courses.specs.Logs.{others}
 use Rattle.courses.specs.Handlers.{Forgets}
 use Rattle.courses.specs.Course.{Sort, Course, Put, Tell, line}
 use Rattle.courses.specs.Copying.{among, wiped, stored, put_all}
-use Rattle.courses.specs.Weaving.{IsOrderly}
 use Rattle.courses.proofs.Stores.{same_element-itself}
 use Rattle.courses.proofs.Alike.{or_right}
 
@@ -173,13 +172,3 @@ forgets_wiped own (e ∷ es) r f =
         go true false p q = rw (p, q) (rw (p, q) at h)
         go true true p q = absurd (false≢true (rw (p, q) at h))
         go false b p q = absurd (false≢true (rw p at h))
-
--- orderly courses
-pub wiped_orderly : {k : Sort} (es : List Element) (q : Course k) → IsOrderly q → IsOrderly (wiped es q)
-wiped_orderly [] q h = h
-wiped_orderly (e ∷ es) q h = wiped_orderly es q h
-
-pub stored_orderly : {k : Sort} (es : List Element) (vs : List Value) (q : Course k) → IsOrderly q → IsOrderly (stored es vs q)
-stored_orderly [] vs q h = h
-stored_orderly (e ∷ es) [] q h = h
-stored_orderly (e ∷ es) (v ∷ vs) q h = stored_orderly es vs q h

@@ -39,7 +39,7 @@ given_bind p c (Write e v r) k = ap (Write e v) (given_bind p c r k)
 given_bind p c (Order n f) k = ap (Order n) (fun_ext (λ o. given_bind p c (f o) k))
 given_bind p c (Announce u r) k = ap (Announce u) (given_bind p c r k)
 
--- a given run is the run from a store that holds the value
+-- with elements given, an interaction does what it does from the store that holds the value
 pub record Given {A : Type 0} (p : Element → Bool) (c : Value) (r : Interaction A) (o : Orders) (s : Store) (j : ℕ) : Type 0 where
   pub answer : answer_of (given p c r) o s j ≡ answer_of r o (holding p c s) j
   pub next : next_of (given p c r) o s j ≡ next_of r o (holding p c s) j

@@ -1,4 +1,4 @@
--- Steps that are clear of one another do what each would do alone.
+-- Steps that are clear of one another do, one after another, what each does alone from the opening store.
 use Rattle.std.proofs.Common.{◌≡◌, ℕ, refl, ap, sym, ◌∙◌, List, [], ◌∷◌, Bool, true, false, ◌&&◌, eqb, eq-eqb}
 use Rattle.std.specs.Prelude.{is_some}
 use Rattle.std.proofs.lemmas.Bool.{eqb-true, false≢true}

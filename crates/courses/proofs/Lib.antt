@@ -28,6 +28,7 @@ pub mod Served
 pub mod Turning
 pub mod Calls
 pub mod Column_calls
+pub mod Lockstep_steps
 pub mod Sides
 pub mod Marked_columns
 pub mod Bounds

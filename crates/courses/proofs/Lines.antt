@@ -1,4 +1,4 @@
--- A course and its line.
+-- The line of two courses, one after the other, is their two lines.
 use Rattle.std.proofs.Common.{◌≡◌, ℕ, refl, ap, sym, ◌∙◌, List, [], ◌∷◌}
 use mathlib.Core.Path.{fun_ext}
 use Rattle.courses.specs.Element.{blank}

@@ -22,8 +22,8 @@ use Rattle.courses.proofs.Handled.{given_run}
 use Rattle.courses.proofs.Settling.{settled_bind, settled_wiped}
 use Rattle.courses.proofs.Allowed.{written_settled}
 use Rattle.courses.proofs.Shared.{not_true}
-use Rattle.courses.proofs.Orderlies.{orderly_then}
-use Rattle.courses.proofs.Forgetting.{drops, wiped_run, others_wiped, alike_more, but, forgets_nothing, forgets_put, forgets_tell, forgets_wiped, wiped_orderly}
+use Rattle.courses.proofs.Orderlies.{orderly_then, wiped_orderly}
+use Rattle.courses.proofs.Forgetting.{drops, wiped_run, others_wiped, alike_more, but, forgets_nothing, forgets_put, forgets_tell, forgets_wiped}
 use Rattle.courses.proofs.Column_loops.{steps_apart, lockstep_columns}
 
 module _ (id : Element) (es : List Element) where

@@ -1,3 +1,4 @@
+-- Going on with nothing changes nothing, and it does not matter how three interactions are put together.
 use Rattle.std.proofs.Common.{◌≡◌, refl, ap}
 use mathlib.Core.Path.{fun_ext}
 use Rattle.courses.specs.Interaction.{Interaction, Done, Trap, Read, Write, Order, Announce, bind}

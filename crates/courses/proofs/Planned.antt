@@ -1,4 +1,4 @@
--- Every plan is fair, and serves all columns.
+-- Every plan gives each marked loop each of its iterations once.
 use mathlib.Core.Path.{ap₂}
 use Rattle.std.proofs.Common.{eq-eqb, ◌≡◌, ℕ, zero, suc, ◌<◌, refl, ap, sym, ◌∙◌, List, [], ◌∷◌, Bool, true, false, not, ◌&&◌, ◌||◌, eqb, arith}
 use Rattle.std.specs.Prelude.{if◌then◌else◌}

@@ -1,4 +1,4 @@
--- A run whose elements have other names.
+-- An interaction with renamed elements does what it does on the store seen through the renaming.
 use Rattle.std.proofs.Common.{◌≡◌, ℕ, suc, refl, ap, ◌∙◌, ◌∷◌, map}
 use mathlib.Core.Path.{fun_ext}
 use Rattle.courses.specs.Element.{Value, Element, Store, put}

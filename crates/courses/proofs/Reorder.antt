@@ -1,4 +1,4 @@
--- Steps in another order.
+-- The law of orders: steps that are clear of one another in another order.
 use Rattle.std.proofs.Common.{◌≡◌, ℕ, refl, ap, sym, ◌∙◌, subst, List, [], ◌∷◌, Bool, true, false, ◌&&◌, ◌||◌, eqb, eq-eqb}
 use Rattle.std.specs.Prelude.{is_some, if◌then◌else◌}
 use mathlib.Core.Path.{fun_ext}

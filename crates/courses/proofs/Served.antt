@@ -1,4 +1,4 @@
--- Every plan and schedule serves all columns.
+-- A course in lock step that is orderly serves all columns under every plan and schedule.
 use Rattle.std.proofs.Common.{ℤ, List, ap}
 use Rattle.std.specs.Prelude.{is_some}
 use Rattle.courses.specs.Element.{Store}

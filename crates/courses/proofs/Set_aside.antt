@@ -1,4 +1,4 @@
--- The law of orders, what is each step's own set aside.
+-- The law of orders where each step has elements of its own, which are set aside.
 use Rattle.std.proofs.Common.{◌≡◌, ℕ, refl, ap, sym, ◌∙◌, List, [], ◌∷◌, Bool, true, false, eqb}
 use Rattle.std.specs.Prelude.{if◌then◌else◌}
 use Rattle.courses.specs.Element.{Element, Store, nobody}

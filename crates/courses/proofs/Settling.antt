@@ -1,4 +1,4 @@
--- Runs that ask for no order, and what touches are left of a log.
+-- Interactions that ask for no order do the same under all orders; and what touches are left of a log.
 use Rattle.std.proofs.Common.{◌≡◌, ℕ, refl, ap, sym, ◌∙◌, List, [], ◌∷◌, Bool, true, false, ◌||◌}
 use Rattle.std.specs.Prelude.{if◌then◌else◌}
 use Rattle.std.proofs.lemmas.Bool.{false≢true}

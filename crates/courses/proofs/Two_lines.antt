@@ -1,4 +1,4 @@
--- The woven line does what the world of the iterations does.
+-- The woven line of an orderly course does what its line does.
 use Rattle.std.proofs.Common.{◌≡◌, ℕ, refl, ap, ◌∙◌, List, Bool, true, false, Option, Some, None}
 use Rattle.std.specs.Prelude.{is_some}
 use Rattle.std.proofs.lemmas.Bool.{false≢true}

@@ -1,4 +1,4 @@
--- The schedule as a run does what the world of the iterations does.
+-- The iterations under a schedule as one interaction do what their interleaving on one store does.
 use Rattle.std.proofs.Common.{◌≡◌, ℕ, refl, ap, sym, ◌∙◌, List, [], ◌∷◌, Bool, true, false, ◌&&◌, Option, Some, None, eqb, eq-eqb}
 use Rattle.std.specs.Prelude.{is_some, if◌then◌else◌}
 use Rattle.std.proofs.lemmas.Bool.{eqb-true, false≢true}
@@ -12,7 +12,7 @@ use Rattle.courses.proofs.Settling.{settles}
 use Rattle.courses.proofs.Alike.{or_left, or_right, or_false}
 use Rattle.courses.proofs.Reorder.{other_name}
 
--- the run ends exactly where this test says, and then leaves this store
+-- the interaction ends exactly where this test says, and then leaves this store
 pub record Gives {B : Type 0} (r : Interaction B) (b : B) (o : Orders) (s : Store) (j : ℕ) (x : Bool) (f : Store) : Type 0 where
   pub yes : x ≡ true → (answer_of r o s j ≡ Some b) × (store_of r o s j ≡ f)
   pub no : x ≡ false → answer_of r o s j ≡ None

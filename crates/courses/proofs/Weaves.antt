@@ -1,4 +1,4 @@
--- Iterations that take turns.
+-- Weaving: iterations that are clear of one another do, under every schedule, what each does alone.
 use Rattle.std.proofs.Common.{◌≡◌, ℕ, suc, refl, ap, sym, ◌∙◌, subst, List, [], ◌∷◌, ◌++◌, Bool, true, false, ◌||◌, eqb, eq-eqb, append_assoc, ◌⊎◌, inl, inr}
 use Rattle.std.proofs.lemmas.List.{append-nil}
 use Rattle.std.specs.Prelude.{is_some, if◌then◌else◌}
@@ -34,7 +34,7 @@ splits (Write e v r) o s j = record { log = refl; answer = refl; store = refl }
 splits (Order n f) o s j = let t = splits (f (o j n)) o s (suc j) in record { log = t.log; answer = t.answer; store = t.store }
 splits (Announce u r) o s j = let t = splits r o s j in record { log = ap (λ l. Announces u ∷ l) t.log; answer = t.answer; store = t.store }
 
--- a run goes on alike from a store that agrees on what it reads next
+-- an interaction goes on alike from a store that agrees on what it reads next
 record GoesAlike {A : Type 0} (r : Interaction A) (o : Orders) (j : ℕ) (s s' : Store) : Type 0 where
   rest : access_rest r o s' j ≡ access_rest r o s j
   number : access_number r o s' j ≡ access_number r o s j
@@ -60,7 +60,7 @@ unsaid (Write x v r) o s j e h = put-other s x v e (or_false (same_element x e) 
 unsaid (Order n f) o s j e h = unsaid (f (o j n)) o s (suc j) e h
 unsaid (Announce u r) o s j e h = unsaid r o s j e h
 
--- a run that is over
+-- an interaction that is over
 record Over {A : Type 0} (r : Interaction A) (o : Orders) (s : Store) (j : ℕ) : Type 0 where
   log : (t : Store) (n : ℕ) → log_of (run_out r o s j) o t n ≡ []
   answer : (t : Store) (n : ℕ) → answer_of (run_out r o s j) o t n ≡ answer_of r o s j
@@ -145,7 +145,7 @@ module _ {A : Type 0} (w : Steps A) (xs : List ℕ) (s : Store) (clear : AllClea
   unfolding left
   left_unwritten e h = (or_false (is_written (d.log k) e) _ (sym (is_written-append (d.log k) left e) ∙ ap (λ l. is_written l e) (fits.log k at) ∙ h)).1
 
-  -- iteration k comes to this run, this number and this store, and alone to this store
+  -- iteration k comes to this rest, this number and this store, and alone to this store
   fits_move : (r : Interaction A) (n : ℕ) (ts : List Event) (f a : Store) → left ≡ ts ++ log_of r w.orders a n → answer_of r w.orders a n ≡ answer_of (d.run k) w.orders (fits.alone k) (d.number k) → store_of r w.orders a n ≡ store_of (d.run k) w.orders (fits.alone k) (d.number k) → ((e : Element) → d.store e ≡ fits.alone k e → f e ≡ a e) → ((e : Element) → is_written left e ≡ false → f e ≡ d.store e) → Fits w xs s (moved d k r n ts f)
   unfolding left
   fits_move r n ts f a split an st same spared = record {
@@ -230,7 +230,7 @@ fits_finished w xs s clear [] sub d fits = fits
 fits_finished w xs s clear (k ∷ ks) sub d fits =
     fits_finished w xs s clear ks (λ i m. sub i (or_right (eqb k i) _ m)) (ends_up w.orders d k) (fits_end w xs s clear d fits k (sub k (or_left _ _ (eq-eqb k k refl))))
 
--- a run that is over
+-- an interaction that is over
 record Still {A : Type 0} (r : Interaction A) (o : Orders) : Type 0 where
   log : (t : Store) (n : ℕ) → log_of r o t n ≡ []
   store : (t : Store) (n : ℕ) → store_of r o t n ≡ t
@@ -288,7 +288,7 @@ toucher w s e (x ∷ ks) = go (is_touched (trace w x s) e) refl (toucher w s e k
         other k true p m = rw (← eqb-true x k p) q
         other k false p m = t k (rw p at m)
 
--- two worlds in which all is over have one store
+-- two interleavings in which all is over have one store
 one_frame : {A : Type 0} (w : Steps A) (xs : List ℕ) (s : Store) (d d' : Interleaving A) → Fits w xs s d → Fits w xs s d' → ((k : ℕ) → member k xs ≡ true → Still (d.run k) w.orders) → ((k : ℕ) → member k xs ≡ true → Still (d'.run k) w.orders) → d.store ≡ d'.store
 one_frame w xs s d d' f f' st st' = fun_ext (λ e. go e (toucher w s e xs))
   where

@@ -1,4 +1,4 @@
--- A course whose loops are orderly does the same under every schedule and every order.
+-- An orderly course does the same under every schedule as under every order, and its loop runs are apart.
 use Rattle.std.proofs.Common.{◌≡◌, ℕ, suc, refl, ap, sym, ◌∙◌, subst, List, [], ◌∷◌, ◌++◌, Bool, true, false, ◌&&◌, eqb, eq-eqb, Option, Some, None}
 use Rattle.std.specs.Prelude.{is_some, if◌then◌else◌}
 use Rattle.std.proofs.lemmas.Bool.{eqb-true, false≢true}

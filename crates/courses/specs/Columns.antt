@@ -161,3 +161,7 @@ pub record IsColumnBody (vary : Varying) (id : Element) (es : List Element) (q r
   pub writes : WritesOnly (λ e. varies vary e || among (id ∷ es) e) (line r)
   pub restores : (e : Element) → among (id ∷ es) e ≡ true → (o : Orders) (s : Store) (j : ℕ) → s e ≡ Undefined → is_some (answer_of (line r) o s j) ≡ true → store_of (line r) o s j e ≡ Undefined
   pub answers : AnswersOnly Normal (line r)
+
+-- where nothing varies: one column is then the whole
+abbrev pub nothing_varies : Varying
+nothing_varies home name = None

@@ -1,17 +1,17 @@
 //! One column beside all columns.
 
-ghost use Rattle.std.specs.Prelude.{◌≡◌, ◌&&◌, ℕ, ℤ, List, ◌∷◌, Bool, true, false, Some};
+ghost use Rattle.std.specs.Prelude.{◌≡◌, ◌&&◌, ℕ, ℤ, pos, List, [], ◌∷◌, Bool, true, false, Some};
 ghost use Rattle.std.specs.Ordering.{int_eq};
-ghost use Rattle.courses.specs.Element.{Value, Undefined, Element, Store};
+ghost use Rattle.courses.specs.Element.{Value, Undefined, Element, same_element, Store};
 ghost use Rattle.courses.specs.Ranges.{wholes_from};
-ghost use Rattle.courses.specs.Interaction.{Interaction, Order, bind, Orders, store_of};
-ghost use Rattle.courses.specs.Renaming.{KeepsApart};
+ghost use Rattle.courses.specs.Interaction.{Interaction, Read, Write, Order, bind, Orders, answer_of, store_of};
+ghost use Rattle.courses.specs.Renaming.{KeepsApart, view};
 ghost use Rattle.courses.specs.Course.{Sort, Answer, Course, Way, line, in_order};
 ghost use Rattle.courses.specs.Copying.{Callee, among, called};
 ghost use Rattle.courses.specs.Marked.{marked};
-ghost use Rattle.courses.specs.Weaving.{IsApart, IsOrderly};
+ghost use Rattle.courses.specs.Weaving.{IsApart, IsFair, IsOrderly};
 ghost use Rattle.courses.specs.Plans.{Plan};
-ghost use Rattle.courses.specs.Columns.{Varying, varies, column, is_own, is_column, Knowledge, Knows, Lockstep, IsShared, AreColumns, CallsMatch, IsColumnBody, Serves};
+ghost use Rattle.courses.specs.Columns.{Varying, varies, column, is_own, is_column, Knowledge, Knows, Lockstep, IsShared, AreColumns, CallsMatch, IsColumnBody, Serves, nothing_varies};
 
 /// A column's elements are kept apart by their places in the wide variables, and each wide place is one column's.
 pub fn column_elements()
@@ -27,6 +27,19 @@ pub fn columns_in_sequence()
 /// A part on shared elements alone, without marked loops, is in lock step with itself, for at least one column.
 pub fn shared_parts()
     ensures { (k : Sort) (vary : Varying) (cols : List ℤ) (pre post : Knowledge) (w : Element → Bool) (c : ℤ) (r : Interaction (Answer k)) → is_column c cols ≡ true → IsShared vary w r → ((o : Orders) (s : Store) (j : ℕ) → Knows pre s → Knows post (store_of r o s j)) → Lockstep vary cols pre post r r }
+{}
+
+/// A read and a write of a shared element, and what follows them, are in lock step, for any number of columns: what is
+/// known of the element before is what all read, and after the write it is the value.
+pub fn shared_accesses()
+    ensures read { (k : Sort) (vary : Varying) (cols : List ℤ) (pre post : Knowledge) (e : Element) (f g : Value → Interaction (Answer k)) → varies vary e ≡ false → ((v : Value) → ((w : Value) → pre e ≡ Some w → v ≡ w) → Lockstep vary cols pre post (f v) (g v)) → Lockstep vary cols pre post (Read e f) (Read e g) }
+    ensures write { (k : Sort) (vary : Varying) (cols : List ℤ) (pre mid post : Knowledge) (e : Element) (v : Value) (r q : Interaction (Answer k)) → varies vary e ≡ false → ((w : Value) → mid e ≡ Some w → v ≡ w) → ((x : Element) (w : Value) → same_element e x ≡ false → mid x ≡ Some w → pre x ≡ Some w) → Lockstep vary cols mid post r q → Lockstep vary cols pre post (Write e v r) (Write e v q) }
+{}
+
+/// Where nothing varies, lock step of one column says that both end or trap alike, with equal answers and stores.
+pub fn nothing_varying()
+    ensures view { (c : ℤ) (s : Store) → view (column nothing_varies c) s ≡ s }
+    ensures answers { (k : Sort) (pre post : Knowledge) (r q : Interaction (Answer k)) → Lockstep nothing_varies (pos 0 ∷ []) pre post r q → (o : Orders) (s : Store) (j : ℕ) (o' : Orders) (j' : ℕ) → IsFair o → Knows pre s → answer_of q o s j ≡ answer_of r o' s j' }
 {}
 
 /// A marked loop whose iterations are the columns, for at least one column: in every order it is in lock step with the

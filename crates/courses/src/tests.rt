@@ -2,7 +2,7 @@
 
 use crate::columns::{
     column_calls, column_elements, column_loops, columns_in_sequence, columns_served,
-    marked_columns, shared_parts,
+    marked_columns, nothing_varying, shared_accesses, shared_parts,
 };
 use crate::elements::{element_equality, single_writes};
 use crate::frames::{array_places, frames};
@@ -38,6 +38,8 @@ fn laws_return(rt: HostRuntime) {
     column_elements();
     columns_in_sequence();
     shared_parts();
+    shared_accesses();
+    nothing_varying();
     column_loops();
     marked_columns();
     column_calls();
