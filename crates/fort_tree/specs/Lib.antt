@@ -4,7 +4,6 @@ pub mod Examples
 pub mod Expr
 pub mod Intrinsic
 pub mod Name
-pub mod Part
 pub mod Report
 pub mod Same
 pub mod Seq
