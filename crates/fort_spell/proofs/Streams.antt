@@ -3,6 +3,7 @@ use Rattle.std.proofs.Common.{◌≡◌, ℕ, ◌+◌, ◌-◌, zero, suc, ◌<�
 use Rattle.std.specs.declared.option.Option.{Option}
 use Rattle.std.specs.Prelude.{Result, Ok, Err, OnOk, OnErr, IsErr, take, drop, codes}
 use Rattle.std.proofs.lemmas.List.{append-nil, take-append-drop}
+use Rattle.std.proofs.lemmas.Grind.{common_steps}
 use Rattle.std.proofs.lemmas.Bool.Decides.{nat_tests}
 use Rattle.std.proofs.lemmas.Bool.{true≢false}
 use Rattle.std.proofs.Common.{length-append}
@@ -43,6 +44,7 @@ went_broke {a = a} {b = b} {c = c} {f = f} {g = g} {h = h} {u = u} p q = record 
   taken = took_both a b c p.bytes q.bytes p.taken q.taken;
   prefix = λ k. ((q.prefix k).0, append_assoc p.bytes q.bytes (q.prefix k).0 ∙ ap (λ z. p.bytes ++ z) (q.prefix k).1 ∙ p.whole k);
   rose = later_rose f g h p.later q.rose;
+  later = omega (arith, p.later, q.later);
 }
 
 broke_rested : {K : Type 0} {a b c : Option (List ℕ)} {f g h : ℕ} {u : K → List ℕ} → Broke a b f g u → Rested b c g h → Broke a c f h u
@@ -51,6 +53,7 @@ broke_rested {a = a} {f = f} {g = g} {h = h} p q = record {
   taken = q.same ∙ p.taken;
   prefix = p.prefix;
   rose = rose_later f g h p.rose q.later;
+  later = omega (arith, p.later, q.later);
 }
 
 pub ways_both : {K Q R S E : Type 0} (x : Result Q E) (y : Result R E) (z : Result S E) (a b c : Option (List ℕ)) (f g h : ℕ) (u : Q → K → List ℕ) (v : R → K → List ℕ) (w : S → K → List ℕ) → ways x y a b f g u v → ways y z b c g h v w → ways x z a c f h u w
@@ -65,21 +68,21 @@ ways_both (Err x) (Err y) (Err z) a b c f g h u v w p q = record { same = q.same
 -- More pieces or rows stand behind.
 pub ways_within : {K L Q R E : Type 0} (x : Result Q E) (y : Result R E) (a b : Option (List ℕ)) (f g : ℕ) (u : Q → K → List ℕ) (v : R → K → List ℕ) (w : L → K) → ways x y a b f g u v → ways x y a b f g (λ s k. u s (w k)) (λ s k. v s (w k))
 ways_within (Ok x) (Ok y) a b f g u v w p = record { bytes = p.bytes; taken = p.taken; whole = λ k. p.whole (w k); later = p.later }
-ways_within (Ok x) (Err y) a b f g u v w p = record { bytes = p.bytes; taken = p.taken; prefix = λ k. p.prefix (w k); rose = p.rose }
+ways_within (Ok x) (Err y) a b f g u v w p = record { bytes = p.bytes; taken = p.taken; prefix = λ k. p.prefix (w k); rose = p.rose; later = p.later }
 ways_within (Err x) (Ok y) a b f g u v w p = p
 ways_within (Err x) (Err y) a b f g u v w p = record { same = p.same; later = p.later }
 
 -- More text stands behind.
 pub ways_behind : {K Q R E : Type 0} (x : Result Q E) (y : Result R E) (a b : Option (List ℕ)) (f g : ℕ) (u : Q → K → List ℕ) (v : R → K → List ℕ) (t : K → List ℕ) → ways x y a b f g u v → ways x y a b f g (λ s k. u s k ++ t k) (λ s k. v s k ++ t k)
 ways_behind (Ok x) (Ok y) a b f g u v t p = record { bytes = p.bytes; taken = p.taken; whole = λ k. sym (append_assoc p.bytes (v y k) (t k)) ∙ ap (λ z. z ++ t k) (p.whole k); later = p.later }
-ways_behind (Ok x) (Err y) a b f g u v t p = record { bytes = p.bytes; taken = p.taken; prefix = λ k. ((p.prefix k).0 ++ t k, sym (append_assoc p.bytes (p.prefix k).0 (t k)) ∙ ap (λ z. z ++ t k) (p.prefix k).1); rose = p.rose }
+ways_behind (Ok x) (Err y) a b f g u v t p = record { bytes = p.bytes; taken = p.taken; prefix = λ k. ((p.prefix k).0 ++ t k, sym (append_assoc p.bytes (p.prefix k).0 (t k)) ∙ ap (λ z. z ++ t k) (p.prefix k).1); rose = p.rose; later = p.later }
 ways_behind (Err x) (Ok y) a b f g u v t p = p
 ways_behind (Err x) (Err y) a b f g u v t p = record { same = p.same; later = p.later }
 
 -- The same text in other words.
 pub ways_as : {K Q R E : Type 0} (x : Result Q E) (y : Result R E) (a b : Option (List ℕ)) (f g : ℕ) (u w : Q → K → List ℕ) (v t : R → K → List ℕ) → ((s : Q) (k : K) → u s k ≡ w s k) → ((s : R) (k : K) → v s k ≡ t s k) → ways x y a b f g u v → ways x y a b f g w t
 ways_as (Ok x) (Ok y) a b f g u w v t d e p = record { bytes = p.bytes; taken = p.taken; whole = λ k. ap (λ z. p.bytes ++ z) (sym (e y k)) ∙ p.whole k ∙ d x k; later = p.later }
-ways_as (Ok x) (Err y) a b f g u w v t d e p = record { bytes = p.bytes; taken = p.taken; prefix = λ k. ((p.prefix k).0, (p.prefix k).1 ∙ d x k); rose = p.rose }
+ways_as (Ok x) (Err y) a b f g u w v t d e p = record { bytes = p.bytes; taken = p.taken; prefix = λ k. ((p.prefix k).0, (p.prefix k).1 ∙ d x k); rose = p.rose; later = p.later }
 ways_as (Err x) (Ok y) a b f g u w v t d e p = p
 ways_as (Err x) (Err y) a b f g u w v t d e p = record { same = p.same; later = p.later }
 
@@ -150,6 +153,7 @@ bytes_way (Err e) a b f g w later took part rose = record {
   taken = part.taken;
   prefix = λ k. (drop part.count w ++ k, sym (append_assoc (take part.count w) (drop part.count w) k) ∙ ap (λ z. z ++ k) (take-append-drop part.count w));
   rose = rose;
+  later = later;
 }
 
 pub bytes_put : {E : Type 0} (x r : Result (Unit {0}) E) (a b : Option (List ℕ)) (f g : ℕ) (w : List ℕ) (u : Unit {0}) → x ≡ Ok u → f ≤ g → OnOk r (Took a b w) → OnErr r (TookPrefix a b w) → OnErr r (Rose f g) →
@@ -176,7 +180,7 @@ shown_err : {K Q E : Type 0} (shown : Q → K → List ℕ) (p q : Q) (r : Resul
     ((k : K) → w (shown q k) ≡ shown p (part k)) → ways (starting {E = E}) r a b f g (λ s k. w k) (bytes_alone {Q = Unit {0}}) → Broke a b f g (λ k. shown p (part k))
 shown_err {E = E} shown p q r d a b f g w part e same way =
     let broke : Broke a b f g (λ k. w k) = subst (λ (z : Result (Unit {0}) E). ways (starting {E = E}) z a b f g (λ s k. w k) (bytes_alone {Q = Unit {0}})) e way in
-    record { bytes = broke.bytes; taken = broke.taken; prefix = λ k. ((broke.prefix (shown q k)).0, (broke.prefix (shown q k)).1 ∙ same k); rose = broke.rose }
+    record { bytes = broke.bytes; taken = broke.taken; prefix = λ k. ((broke.prefix (shown q k)).0, (broke.prefix (shown q k)).1 ∙ same k); rose = broke.rose; later = broke.later }
 
 pub shown_put : {K Q E : Type 0} (shown : Q → K → List ℕ) (x : Result Q E) (p q : Q) (r : Result (Unit {0}) E) (u : Unit {0}) (a b : Option (List ℕ)) (f g : ℕ) (w : List ℕ → List ℕ) (part : K → K) → x ≡ Ok p → r ≡ Ok u →
     ((k : K) → w (shown q k) ≡ shown p (part k)) → Put bytes_alone (starting {E = E}) r a b f g w → Put shown x (Ok q) a b f g part
@@ -237,7 +241,7 @@ opened_ok_way m (Err x) u a b f g p = absurd p
 opened_err_way : {E : Type 0} (m : Margin) (x : Result (Unit {0}) E) (e : E) (y : Result ℕ E) (a b : Option (List ℕ)) (f g : ℕ) → IsErr y → ways x (Err e) a b f g (λ s k. first_margin m ++ k) (bytes_alone {Q = Unit {0}}) →
     ways x y a b f g (λ s k. line (record { margin = m; pieces = k })) (laid m)
 opened_err_way m x e (Ok y) a b f g i p = absurd (true≢false (sym i))
-opened_err_way m (Ok x) e (Err y) a b f g i p = record { bytes = p.bytes; taken = p.taken; prefix = λ k. p.prefix (laid m (length (first_margin m)) k); rose = p.rose }
+opened_err_way m (Ok x) e (Err y) a b f g i p = record { bytes = p.bytes; taken = p.taken; prefix = λ k. p.prefix (laid m (length (first_margin m)) k); rose = p.rose; later = p.later }
 opened_err_way m (Err x) e (Err y) a b f g i p = record { same = p.same; later = p.later }
 
 margin_as : {E : Type 0} (m : Margin) (x r : Result (Unit {0}) E) (a b : Option (List ℕ)) (f g : ℕ) (w : List ℕ) → w ≡ sentinel_text m.sentinel → Put bytes_alone x r a b f g (λ k. blanks m.indent ++ (w ++ k)) → Put bytes_alone x r a b f g (λ k. first_margin m ++ k)
@@ -272,3 +276,41 @@ margin_width m w e = ap (λ z. m.indent + length z) e ∙ ap (λ n. n + length (
 pub row_of : {E : Type 0} {n : ℕ} {x : Result (Unit {0}) E} {y z : Result ℕ E} {w : Result (Unit {0}) E} {a b c d : Option (List ℕ)} {f g h i : ℕ} {m : Margin} (u : List Piece → List Piece) → m ≡ margin sentinel.Absent n →
     Opened m x y a b f g → Put (laid m) y z b c g h u → Closed z w c d h i → Put rows_shown x w a d f i (λ rs. row n (u []) rs)
 row_of {x = x} {w = w} {a = a} {d = d} {f = f} {i = i} u e o p q = subst (λ m. Put rows_shown x w a d f i (λ rs. record { margin = m; pieces = u [] } ∷ rs)) e (row_put u o p q)
+
+-- ALL IS PUT
+
+end_took : {E : Type 0} (r : Result (Unit {0}) E) (a b : Option (List ℕ)) (f g : ℕ) (u : List Row → List Row) → ways (starting {E = E}) r a b f g (λ s k. text (u k)) (rows_shown {Q = Unit {0}}) → OnOk r (Took a b (text (u [])))
+end_took (Ok x) a b f g u p = subst (λ z. Took a b z) (sym (append-nil p.bytes) ∙ p.whole []) p.taken
+end_took (Err x) a b f g u p = tt
+
+take_front : (x y : List ℕ) → take (length x) (x ++ y) ≡ x
+take_front x y = grind (arith, common_steps)
+
+prefix_of : (x y z : List ℕ) → x ++ y ≡ z → take (length x) z ≡ x
+prefix_of x y z e = ap (take (length x)) (sym e) ∙ take_front x y
+
+end_part : {E : Type 0} (r : Result (Unit {0}) E) (a b : Option (List ℕ)) (f g : ℕ) (u : List Row → List Row) → ways (starting {E = E}) r a b f g (λ s k. text (u k)) (rows_shown {Q = Unit {0}}) → OnErr r (TookPrefix a b (text (u [])))
+end_part (Ok x) a b f g u p = tt
+end_part (Err x) a b f g u p = record {
+  count = length p.bytes;
+  within = omega (arith, ap length (p.prefix []).1, length-append p.bytes (p.prefix []).0);
+  taken = subst (λ z. Took a b z) (sym (prefix_of p.bytes (p.prefix []).0 (text (u [])) (p.prefix []).1)) p.taken;
+}
+
+end_rose : {E : Type 0} (r : Result (Unit {0}) E) (a b : Option (List ℕ)) (f g : ℕ) (u : List Row → List Row) → ways (starting {E = E}) r a b f g (λ s k. text (u k)) (rows_shown {Q = Unit {0}}) → OnErr r (Rose f g)
+end_rose (Ok x) a b f g u p = tt
+end_rose (Err x) a b f g u p = p.rose
+
+end_later : {E : Type 0} (r : Result (Unit {0}) E) (a b : Option (List ℕ)) (f g : ℕ) (u : List Row → List Row) → ways (starting {E = E}) r a b f g (λ s k. text (u k)) (rows_shown {Q = Unit {0}}) → f ≤ g
+end_later (Ok x) a b f g u p = p.later
+end_later (Err x) a b f g u p = p.later
+
+-- What all rows say of the sink.
+pub record Ended {E : Type 0} (r : Result (Unit {0}) E) (a b : Option (List ℕ)) (f g : ℕ) (all : List ℕ) : Type 0 where
+  pub later : f ≤ g
+  pub took : OnOk r (Took a b all)
+  pub part : OnErr r (TookPrefix a b all)
+  pub rose : OnErr r (Rose f g)
+
+pub ended : {E : Type 0} (r : Result (Unit {0}) E) (a b : Option (List ℕ)) (f g : ℕ) (u : List Row → List Row) → Put rows_shown (starting {E = E}) r a b f g u → Ended r a b f g (text (u []))
+ended r a b f g u p = record { later = end_later r a b f g u p.way; took = end_took r a b f g u p.way; part = end_part r a b f g u p.way; rose = end_rose r a b f g u p.way }

@@ -19,6 +19,7 @@ pub record Broke {K : Type 0} (before now : Option (List ℕ)) (faults risen : �
   pub taken : Took before now bytes
   pub prefix : (k : K) → (rest : List ℕ) × (bytes ++ rest ≡ part k)
   pub rose : Rose faults risen
+  pub later : faults ≤ risen
 
 -- The sink had failed already, and took nothing.
 pub record Rested (before now : Option (List ℕ)) (faults risen : ℕ) : Type 0 where

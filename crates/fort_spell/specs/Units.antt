@@ -147,6 +147,11 @@ is_host number (Some host) = host == number
 abbrev pub units_of : ℕ → List ProgramUnit → List ProgramUnit
 units_of number us = filter (λ u. is_host number u.host) us
 
+-- the rows of a unit, or none
+abbrev pub chosen_unit : Bool → ProgramUnit → Block
+chosen_unit true u n rs = unit_rows u n rs
+chosen_unit false u n rs = rs
+
 abbrev pub has_some : List ProgramUnit → Bool
 has_some [] = false
 has_some (u ∷ us) = true

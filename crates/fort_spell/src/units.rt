@@ -1,9 +1,10 @@
 //! Units, modules and files (ISO/IEC 1539-1:2018 clauses 14 and 15).
-ghost use Rattle.std.specs.Prelude.{◌≡◌, ◌≤◌, codes, false, map};
+ghost use Rattle.std.specs.Prelude.{◌≡◌, ◌≤◌, codes, false, map, slice_get};
+ghost use Rattle.std.specs.Option.{option_copied};
 ghost use Rattle.fort_spell.specs.Pieces.{end_pieces, pair, word};
 ghost use Rattle.fort_spell.specs.Rows.{all_rows, deeper as deeper_than, laid, one_row};
 ghost use Rattle.fort_spell.specs.Stream.{Put, rows_shown, starting};
-ghost use Rattle.fort_spell.specs.Units.{bytes_pieces, contained_rows, function_clause, has_some, implicit_rows, intent_pieces, intent_word, is_host, item_rows, kind_pieces, module_parts, module_rows, only_list, own_implicit_rows, parameter_pieces, result_of, routine_rows, routines_rows, shape_pieces, unit_parts, unit_rows, unit_word, units_of, value_pieces};
+ghost use Rattle.fort_spell.specs.Units.{bytes_pieces, chosen_unit, contained_rows, function_clause, has_some, implicit_rows, intent_pieces, intent_word, is_host, item_rows, kind_pieces, module_parts, module_rows, only_list, own_implicit_rows, parameter_pieces, result_of, routine_rows, routines_rows, shape_pieces, unit_parts, unit_rows, unit_word, units_of, value_pieces};
 
 use crate::expressions::put_expr;
 use crate::line::{Margin, Sentinel};
@@ -436,6 +437,24 @@ fn has_units(number: u32, units: &[Unit]) -> bool
     false
 }
 
+/// Puts a unit, where it is of the module.
+fn put_if_hosted<S: Sink>(
+    number: u32,
+    unit: &Unit,
+    indent: usize,
+    so_far: Result<(), Failed>,
+    sink: &mut S,
+) -> Result<(), Failed>
+    requires { indent ≤ 40 }
+    ensures { Put rows_shown so_far result (S.taken sink.old) (S.taken sink.new) (S.faults sink.old) (S.faults sink.new) (chosen_unit (is_host number unit.now.host) unit.now indent) }
+{
+    if is_hosted(number, unit.host) {
+        put_unit(unit, indent, so_far, sink)
+    } else {
+        so_far
+    }
+}
+
 /// Puts the units of a module.
 fn put_hosted<S: Sink>(
     number: u32,
@@ -449,9 +468,7 @@ fn put_hosted<S: Sink>(
 {
     let mut so_far = so_far;
     for unit in units {
-        if is_hosted(number, unit.host) {
-            so_far = put_unit(unit, indent, so_far, sink);
-        }
+        so_far = put_if_hosted(number, unit, indent, so_far, sink);
     }
     so_far
 }
@@ -480,11 +497,12 @@ fn put_contained<S: Sink>(
     requires { indent ≤ 40 }
     ensures { Put rows_shown so_far result (S.taken sink.old) (S.taken sink.new) (S.faults sink.old) (S.faults sink.new) (contained_rows (units_of number units.now) indent) }
 {
-    if !has_units(number, units) {
-        return so_far;
+    if has_units(number, units) {
+        let so_far = put_word_row(b"contains", indent, so_far, sink);
+        put_hosted_inside(number, units, indent, so_far, sink)
+    } else {
+        so_far
     }
-    let so_far = put_word_row(b"contains", indent, so_far, sink);
-    put_hosted_inside(number, units, indent, so_far, sink)
 }
 
 /// Puts what stands in a module before its units.
@@ -544,34 +562,58 @@ fn put_module<S: Sink>(
     put_end_row(b"module", &host.name, indent, so_far, sink)
 }
 
+fn module_at(modules: &[Module], number: u32) -> Option<&Module>
+    ensures { option_copied result ≡ slice_get modules.now number }
+{
+    modules.get(number as usize)
+}
+
+fn unit_at(units: &[Unit], number: u32) -> Option<&Unit>
+    ensures { option_copied result ≡ slice_get units.now number }
+{
+    units.get(number as usize)
+}
+
 /// Puts an item of a file's top level. An index past the end stands for nothing.
 fn put_item<S: Sink>(
     file: &File,
-    item: Item,
+    item: &Item,
     so_far: Result<(), Failed>,
     sink: &mut S,
 ) -> Result<(), Failed>
-    ensures { Put rows_shown so_far result (S.taken sink.old) (S.taken sink.new) (S.faults sink.old) (S.faults sink.new) (item_rows file.now item 0) }
+    ensures { Put rows_shown so_far result (S.taken sink.old) (S.taken sink.new) (S.faults sink.old) (S.faults sink.new) (item_rows file.now item.now 0) }
 {
-    match item {
-        Item::Module(number) => match file.modules.items().get(number as usize) {
+    match *item {
+        Item::Module(number) => match module_at(file.modules.items(), number) {
             None => so_far,
             Some(host) => put_module(number, host, file.units.items(), 0, so_far, sink),
         },
-        Item::Unit(number) => match file.units.items().get(number as usize) {
+        Item::Unit(number) => match unit_at(file.units.items(), number) {
             None => so_far,
             Some(unit) => put_unit(unit, 0, so_far, sink),
         },
     }
 }
 
+/// Puts items of a file's top level.
+fn put_order<S: Sink>(
+    file: &File,
+    order: &[Item],
+    so_far: Result<(), Failed>,
+    sink: &mut S,
+) -> Result<(), Failed>
+    ensures { Put rows_shown so_far result (S.taken sink.old) (S.taken sink.new) (S.faults sink.old) (S.faults sink.new) (all_rows (map (item_rows file.now) order.now) 0) }
+{
+    let mut so_far = so_far;
+    for item in order {
+        so_far = put_item(file, item, so_far, sink);
+    }
+    so_far
+}
+
 /// Puts all items of a file.
 pub fn put_file<S: Sink>(file: &File, sink: &mut S) -> Result<(), Failed>
     ensures { Put rows_shown (starting {E = Failed}) result (S.taken sink.old) (S.taken sink.new) (S.faults sink.old) (S.faults sink.new) (all_rows (map (item_rows file.now) file.now.order) 0) }
 {
-    let mut so_far = Ok(());
-    for item in file.order.items() {
-        so_far = put_item(file, *item, so_far, sink);
-    }
-    so_far
+    put_order(file, file.order.items(), Ok(()), sink)
 }
