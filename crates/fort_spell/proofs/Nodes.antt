@@ -62,3 +62,10 @@ next_block f n l i x h e =
 pub dimension_lower : (o : Option Expr) (l : Expr) (u : Option Spelling) (s : Bool) → o ≡ Some l → dimension (bound_pieces o) u s ≡ (λ k. lower (bound_pieces o) s (or_none u false k))
 dimension_lower None l u s e = cc
 dimension_lower (Some x) l u s e = refl
+
+-- The same of items that are copied out of the list.
+pub next_block_or : {T : Type 0} (f : T → Block) (n : ℕ) (l : List T) (i : ℕ) (d : T) → i < length l →
+    all_rows (map f (drop i l)) n ≡ (λ rs. f (get_or l i d) n (all_rows (map f (drop (i + 1) l)) n rs))
+next_block_or f n l i d h =
+    let m : suc i ≡ i + 1 = omega arith in
+    ap (λ q. all_rows (map f q) n) (drop-cons l i d h ∙ ap (λ j. get_or l i d ∷ drop j l) m)
