@@ -1,0 +1,4 @@
+pub mod Streams
+pub mod Nodes
+pub mod Forms
+pub mod Parts

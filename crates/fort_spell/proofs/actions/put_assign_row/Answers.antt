@@ -1,0 +1,5 @@
+use Rattle.fort_spell.proofs.Streams.{put_both, row_of}
+use Rattle.fort_spell.proofs.actions.put_assign_row.Goals as goal
+
+pub returns : goal.returns
+returns g c = row_of _ c.of_statement-margin.ensures c.open_row-reached.ensures c.put_assign-reached.ensures c.close_row.ensures

@@ -1,0 +1,5 @@
+use Rattle.fort_spell.proofs.Streams.{put_both, row_put}
+use Rattle.fort_spell.proofs.units.put_routine_row.Goals as goal
+
+pub returns : goal.returns
+returns g c = row_put _ c.open_row-reached.ensures (put_both _ _ c.put_word-reached.ensures c.put_word-reached-2.ensures) c.close_row.ensures

@@ -1,0 +1,14 @@
+//! The text of a program's tree, in the layout of this project's own.
+#![tactic(auto)]
+
+mod actions;
+mod expressions;
+mod line;
+mod lists;
+mod mark;
+mod put;
+mod statements;
+mod text;
+mod units;
+
+pub use text::spell;
