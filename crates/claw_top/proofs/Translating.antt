@@ -16,7 +16,7 @@ use Rattle.claw_meaning.specs.Spread.{Spread}
 use Rattle.claw_meaning.specs.Kept.{Kept}
 use Rattle.column_scalars.specs.Scalars.{Scalars, IsScalars, source_unit, wide_unit, program_of}
 use Rattle.column_scalars.specs.Widened.{widened}
-use Rattle.column_scalars.proofs.Widening.{widened_is_wide}
+use Rattle.column_scalars.proofs.WideUnits.{widened_is}
 use Rattle.column_scalars.proofs.Source.{source_does}
 use Rattle.column_scalars.proofs.Wide.{wide_does}
 use Rattle.column_scalars.proofs.Columnwise.{are_columnwise}
@@ -29,7 +29,7 @@ use Rattle.claw_top.specs.declared.reading.Reading.TheVariants.{Empty, Unit as T
 use Rattle.claw_top.specs.ReadingText.{IsReading}
 use Rattle.claw_top.specs.ReadingScalars.{IsScalarsUnit}
 use Rattle.claw_top.specs.Translation.{IsSpelled, nothing, unit, no_unit, one_unit, Translation}
-use Rattle.claw_top.proofs.ReadScalars.{read_scalars}
+use Rattle.claw_top.proofs.ScalarsUnits.{read_scalars}
 
 -- a program without units has no unit of any number
 no_such : {i : ℕ} {u : Unit} → None ≡ Some u → ⊥
@@ -56,7 +56,7 @@ pub unit_translation : (source : List ℕ) (u w : TreeUnit) → IsReading 0 sour
 unit_translation source u w is made =
     let read : IsScalarsUnit u = read_scalars 0 source u is in
     let s : Scalars = read.scalars in
-    let wide : plain_unit w ≡ wide_unit s = made ∙ (ap widened read.plain ∙ widened_is_wide s read.is) in
+    let wide : plain_unit w ≡ wide_unit s = made ∙ (ap widened read.plain ∙ widened_is s) in
     let names : ℕ → Text → Bool = λ i x. is_listed s.dummies x in
     record {
       directed = one_unit u;

@@ -22,3 +22,5 @@ pub mod Reaching
 pub mod Referring
 pub mod Erasing
 pub mod Spreading
+pub mod WideTrees
+pub mod WideUnits

@@ -53,14 +53,9 @@ looped_by d (Then s rest) = Then (loop_by d (wide_stmts (first_name d.names) (Th
 
 abbrev pub widened_by : Directive → Unit → Unit
 widened_by d u = record {
-  name = u.name;
-  dummies = u.dummies ++ listed (bare_name d.upper);
-  result = None;
-  uses = [];
+  name = u.name; dummies = u.dummies ++ listed (bare_name d.upper); result = None; uses = [];
   decls = map added_decl (listed (bare_name d.upper)) ++ (map (wide_decl_by d) u.decls ++ local_decl (first_name d.names) ∷ []);
-  marks = [];
-  body = Then (guard_by d) (looped_by d u.body);
-  host = None;
+  marks = []; body = Then (guard_by d) (looped_by d u.body); host = None;
 }
 
 abbrev pub no_directive : List Directive → Unit → Unit

@@ -3,6 +3,11 @@
 
 mod laws;
 mod made;
+mod widening;
 
-pub use laws::{does_as_modelled, keeps_columns};
+pub use laws::{does_as_modelled, keeps_columns, widened_is_wide_unit};
 pub use made::made_for_all_columns;
+pub use widening::widen;
+
+#[cfg(test)]
+mod tests;
