@@ -3,6 +3,10 @@ use outside::{FileList, MemShelf, MemSink, Numbers};
 use std::alloc::{AllocError, Global};
 use std::test::Fail;
 
+const SOURCE: &str = "subroutine add(a, b)\n  integer, intent(in) :: a\n  integer, intent(inout) :: b\n  !$claw define dimension col(1:ncol) parallelize data(a, b)\n  b = b + a*2\nend subroutine add\n";
+
+const TRANSLATED: &str = "subroutine add(a, b, ncol)\n  implicit none\n  integer, intent(in) :: ncol\n  integer, intent(in) :: a(1:ncol)\n  integer, intent(inout) :: b(1:ncol)\n  integer :: col\n  if (ncol < 1) return\n  do col = 1, ncol\n    b(col) = b(col)+a(col)*2\n  end do\nend subroutine add\n";
+
 // Numbers of calls that fail, of which 0 is none.
 fn failing(alloc: Global, number: u64) -> Result<Numbers, AllocError> {
     let mut numbers = Numbers::new(alloc);
@@ -10,36 +14,74 @@ fn failing(alloc: Global, number: u64) -> Result<Numbers, AllocError> {
     Ok(numbers)
 }
 
-fn sources(alloc: Global) -> Result<FileList, AllocError> {
+fn shelf_of(alloc: Global, source: &str) -> Result<MemShelf, AllocError> {
     let mut files = FileList::new(alloc);
-    files.push("empty.f90", b"")?;
-    files.push("blank.f90", b" \n\t\r\n")?;
-    files.push("one.f90", b"end")?;
-    files.push("ten.f90", b"\n\n\n\n\n\n\n\n\n  end\n")?;
-    Ok(files)
+    files.push("one.f90", source.as_bytes())?;
+    Ok(MemShelf::new(files, Numbers::new(alloc)))
 }
 
+fn sink(alloc: Global) -> Result<MemSink, AllocError> {
+    MemSink::new(alloc, 1000, Numbers::new(alloc))
+}
+
+// One unit of column scalars is translated.
 #[test]
-fn statuses(rt: HostRuntime) -> Result<(), Fail> {
+fn translates_one_unit(rt: HostRuntime) -> Result<(), Fail> {
+    let mut shelf = shelf_of(rt.alloc(), SOURCE)?;
+    let mut out = sink(rt.alloc())?;
+    let mut err = sink(rt.alloc())?;
+    let words = ["claw", "translate", "one.f90"];
+    assert_eq!(rt; claw(rt.alloc(), &words, &mut shelf, &mut out, &mut err), 0);
+    assert!(rt; out.text() == TRANSLATED.as_bytes());
+    assert!(rt; err.text().is_empty());
+    Ok(())
+}
+
+// Each prefix of a source is translated or refused, and a refusal writes nothing.
+#[test]
+fn prefixes(rt: HostRuntime) -> Result<(), Fail> {
+    let words = ["claw", "translate", "one.f90"];
+    for length in 0..SOURCE.len() {
+        let mut files = FileList::new(rt.alloc());
+        files.push("one.f90", &SOURCE.as_bytes()[..length])?;
+        let mut shelf = MemShelf::new(files, Numbers::new(rt.alloc()));
+        let mut out = sink(rt.alloc())?;
+        let mut err = sink(rt.alloc())?;
+        let status = claw(rt.alloc(), &words, &mut shelf, &mut out, &mut err);
+        assert!(rt; status == 0 || status == 1, "{length}");
+        assert!(rt; (status == 1) == !err.text().is_empty(), "{length}");
+        assert!(rt; status == 0 || out.text().is_empty(), "{length}");
+    }
+    Ok(())
+}
+
+// A refused source has its report, and nothing is written.
+#[test]
+fn refusals(rt: HostRuntime) -> Result<(), Fail> {
+    let words = ["claw", "translate", "one.f90"];
+    let cases = [
+        ("module m\n", "one.f90:1:1: E20 not in the profile 13\n"),
+        ("\n\n\n\n\n\n\n\n\n  end\n", "one.f90:10:1: E20 not in the profile 13\n"),
+        ("subroutine s(a)\n  call f\n", "one.f90:2:1: E20 not in the profile 13\n"),
+        ("subroutine s(a)\n", "one.f90:1:1: E20 not in the profile 13\n"),
+    ];
+    for (source, report) in cases {
+        let mut shelf = shelf_of(rt.alloc(), source)?;
+        let mut out = sink(rt.alloc())?;
+        let mut err = sink(rt.alloc())?;
+        assert_eq!(rt; claw(rt.alloc(), &words, &mut shelf, &mut out, &mut err), 1);
+        assert!(rt; err.text() == report.as_bytes(), "{report}");
+        assert!(rt; out.text().is_empty(), "{report}");
+    }
+    Ok(())
+}
+
+// Words that are no request, and files that are not there.
+#[test]
+fn words_and_files(rt: HostRuntime) -> Result<(), Fail> {
     let usage = "usage: claw translate, check, run, run-target or gen\n";
-    let cases: [(&[&str], u8, &str); 14] = [
-        (&["claw", "translate", "empty.f90"], 0, ""),
-        (&["claw", "translate", "blank.f90"], 0, ""),
-        (
-            &["", "translate", "one.f90"],
-            1,
-            "one.f90:1:1: E20 not in the profile 13\n",
-        ),
-        (
-            &["claw", "translate", "ten.f90"],
-            1,
-            "ten.f90:10:1: E20 not in the profile 13\n",
-        ),
-        (
-            &["claw", "translate", "two.f90"],
-            3,
-            "cannot read two.f90\n",
-        ),
+    let cases: [(&[&str], u8, &str); 10] = [
+        (&["claw", "translate", "two.f90"], 3, "cannot read two.f90\n"),
         (&["claw", "translate", "-"], 3, "cannot read -\n"),
         (&["claw", "translate", ""], 3, "cannot read \n"),
         (&[], 2, usage),
@@ -48,17 +90,13 @@ fn statuses(rt: HostRuntime) -> Result<(), Fail> {
         (&["translate", "one.f90"], 2, usage),
         (&["claw", "check", "one.f90"], 2, usage),
         (&["claw", "translate", "--help"], 2, usage),
-        (&["claw", "translate", "one.f90", "empty.f90"], 2, usage),
+        (&["claw", "translate", "one.f90", "one.f90"], 2, usage),
     ];
     for (words, status, text) in cases {
-        let mut shelf = MemShelf::new(sources(rt.alloc())?, Numbers::new(rt.alloc()));
-        let mut out = MemSink::new(rt.alloc(), 100, Numbers::new(rt.alloc()))?;
-        let mut err = MemSink::new(rt.alloc(), 100, Numbers::new(rt.alloc()))?;
-        assert_eq!(rt;
-            claw(rt.alloc(), words, &mut shelf, &mut out, &mut err),
-            status,
-            "{text}"
-        );
+        let mut shelf = shelf_of(rt.alloc(), SOURCE)?;
+        let mut out = sink(rt.alloc())?;
+        let mut err = sink(rt.alloc())?;
+        assert_eq!(rt; claw(rt.alloc(), words, &mut shelf, &mut out, &mut err), status, "{text}");
         assert!(rt; err.text() == text.as_bytes(), "{text}");
         assert!(rt; out.text().is_empty(), "{text}");
     }
@@ -68,18 +106,15 @@ fn statuses(rt: HostRuntime) -> Result<(), Fail> {
 // A file of the greatest length is compiled, and one byte more is too long.
 #[test]
 fn longest_source(rt: HostRuntime) -> Result<(), Fail> {
+    let words = ["claw", "translate", "long.f90"];
     let mut source = vec![in rt.alloc(); b'\n'; 4194305]?;
     for (status, text) in [(9u8, "too long\n"), (0, "")] {
         let mut files = FileList::new(rt.alloc());
         files.push("long.f90", &source)?;
         let mut shelf = MemShelf::new(files, Numbers::new(rt.alloc()));
-        let mut out = MemSink::new(rt.alloc(), 100, Numbers::new(rt.alloc()))?;
-        let mut err = MemSink::new(rt.alloc(), 100, Numbers::new(rt.alloc()))?;
-        let words = ["claw", "translate", "long.f90"];
-        assert_eq!(rt;
-            claw(rt.alloc(), &words, &mut shelf, &mut out, &mut err),
-            status
-        );
+        let mut out = sink(rt.alloc())?;
+        let mut err = sink(rt.alloc())?;
+        assert_eq!(rt; claw(rt.alloc(), &words, &mut shelf, &mut out, &mut err), status);
         assert!(rt; err.text() == text.as_bytes());
         assert!(rt; out.text().is_empty());
         source.truncate(4194304);
@@ -87,34 +122,54 @@ fn longest_source(rt: HostRuntime) -> Result<(), Fail> {
     Ok(())
 }
 
+// A load that fails is no file.
 #[test]
 fn failing_load(rt: HostRuntime) -> Result<(), Fail> {
-    let mut shelf = MemShelf::new(sources(rt.alloc())?, failing(rt.alloc(), 1)?);
-    let mut out = MemSink::new(rt.alloc(), 100, Numbers::new(rt.alloc()))?;
-    let mut err = MemSink::new(rt.alloc(), 100, Numbers::new(rt.alloc()))?;
-    let words = ["claw", "translate", "empty.f90"];
+    let mut files = FileList::new(rt.alloc());
+    files.push("one.f90", SOURCE.as_bytes())?;
+    let mut shelf = MemShelf::new(files, failing(rt.alloc(), 1)?);
+    let mut out = sink(rt.alloc())?;
+    let mut err = sink(rt.alloc())?;
+    let words = ["claw", "translate", "one.f90"];
     assert_eq!(rt; claw(rt.alloc(), &words, &mut shelf, &mut out, &mut err), 3);
-    assert!(rt; err.text() == b"cannot read empty.f90\n".as_slice());
+    assert!(rt; err.text() == b"cannot read one.f90\n".as_slice());
     assert!(rt; out.text().is_empty());
     Ok(())
 }
 
 // Each put of a report in turn fails: the status is 4, and a prefix was put.
 #[test]
-fn failing_puts(rt: HostRuntime) -> Result<(), Fail> {
-    let report = b"ten.f90:10:1: E20 not in the profile 13\n";
-    let words = ["claw", "translate", "ten.f90"];
-    for put in 1..42u64 {
-        let mut shelf = MemShelf::new(sources(rt.alloc())?, Numbers::new(rt.alloc()));
-        let mut out = MemSink::new(rt.alloc(), 100, Numbers::new(rt.alloc()))?;
+fn failing_report(rt: HostRuntime) -> Result<(), Fail> {
+    let report = b"one.f90:1:1: E20 not in the profile 13\n";
+    let words = ["claw", "translate", "one.f90"];
+    for put in 1..41u64 {
+        let mut shelf = shelf_of(rt.alloc(), "end\n")?;
+        let mut out = sink(rt.alloc())?;
         let mut err = MemSink::new(rt.alloc(), 100, failing(rt.alloc(), put)?)?;
         err.narrow(1);
         let status = claw(rt.alloc(), &words, &mut shelf, &mut out, &mut err);
-        // A report of 40 bytes takes as many puts.
-        assert_eq!(rt; status, if put == 41 { 1 } else { 4 }, "put {put}");
+        // A report of 39 bytes takes as many puts.
+        assert_eq!(rt; status, if put == 40 { 1 } else { 4 }, "put {put}");
         assert!(rt; out.text().is_empty());
         assert!(rt; report.starts_with(err.text()), "put {put}");
         assert_eq!(rt; err.text().len() as u64, put - 1, "put {put}");
+    }
+    Ok(())
+}
+
+// Each put of a translated text in turn fails: the status is 4, and a prefix was put.
+#[test]
+fn failing_text(rt: HostRuntime) -> Result<(), Fail> {
+    let words = ["claw", "translate", "one.f90"];
+    for put in 1..100u64 {
+        let mut shelf = shelf_of(rt.alloc(), SOURCE)?;
+        let mut out = MemSink::new(rt.alloc(), 1000, failing(rt.alloc(), put)?)?;
+        let mut err = sink(rt.alloc())?;
+        out.narrow(1);
+        assert_eq!(rt; claw(rt.alloc(), &words, &mut shelf, &mut out, &mut err), 4, "put {put}");
+        assert!(rt; err.text().is_empty());
+        assert!(rt; TRANSLATED.as_bytes().starts_with(out.text()), "put {put}");
+        assert_eq!(rt; out.text().len() as u64, put - 1, "put {put}");
     }
     Ok(())
 }
