@@ -1,7 +1,7 @@
 -- What is made of a source is a translation of it.
 use Rattle.std.proofs.Common.{◌≡◌, ℕ, refl, sym, ap, ◌∙◌, subst, List, [], ◌∷◌, Some, None, Bool, true, false, slice_get}
 use Rattle.std.specs.Prelude.{is_some}
-use Rattle.std.proofs.Common.{false≢true}
+use Rattle.std.proofs.lemmas.Bool.{false≢true}
 use Rattle.fort_tree.specs.declared.choice.Target.TheVariants.{Cpu}
 use Rattle.fort_tree.specs.declared.choice.Directives.TheVariants.{Plain}
 use Rattle.fort_tree.specs.declared.unit.File.{File}
@@ -32,7 +32,7 @@ use Rattle.claw_top.specs.Translation.{IsSpelled, nothing, unit, no_unit, one_un
 use Rattle.claw_top.proofs.ScalarsUnits.{read_scalars}
 
 -- a program without units has no unit of any number
-no_such : {i : ℕ} {u : Unit} → None ≡ Some u → ⊥
+no_such : {u : Unit} → None ≡ Some u → ⊥
 no_such e = absurd (false≢true (ap is_some e))
 
 pub empty_translation : (source : List ℕ) → IsReading 0 source Empty → Translation source (layout_of no_unit)

@@ -1,5 +1,5 @@
 -- The trees that are made for the program of all columns, as plain trees.
-use Rattle.std.proofs.Common.{◌≡◌, ◌<◌, ◌≤◌, ℕ, ◌+◌, List, [], ◌∷◌, ◌++◌, take, Option, None, Some, map, length, get_or, refl, ap, sym, subst, arith, ◌∙◌}
+use Rattle.std.proofs.Common.{◌≡◌, ◌<◌, ◌≤◌, ℕ, ◌+◌, List, [], ◌∷◌, ◌++◌, take, None, Some, map, length, get_or, refl, ap, sym, subst, ◌∙◌}
 use Rattle.std.proofs.lemmas.List.{map-append, take_more, take_all}
 use Rattle.fort_arith.specs.declared.op.Op.TheVariants.{Lt}
 use Rattle.fort_tree.specs.declared.place.Place.{Place}
@@ -21,7 +21,7 @@ use Rattle.claw_meaning.specs.Syntax.{Text, Reference, At, Binary, No_arm, No_mo
 use Rattle.claw_meaning.specs.Plain.{plain_expr, plain_option, plain_head, plain_stmt, plain_stmts, plain_directive, plain_use, plain_decl, plain_unit, in_a_row}
 use Rattle.claw_meaning.proofs.PlainTrees.{arm, plain_name, plain_reference, plain_at, plain_two, plain_if, plain_loop, plain_return, plain_an_arm}
 use Rattle.column_scalars.specs.Scalars.{in_column}
-use Rattle.column_scalars.specs.Widened.{wide_stmt, wide_stmts, first_name, bound_or_one, wide_decl_by, guard_by, loop_by, looped_by, widened_by, no_directive, Dimensioned}
+use Rattle.column_scalars.specs.Widened.{wide_stmt, wide_stmts, first_name, bound_or_one, wide_decl_by, guard_by, loop_by, looped_by}
 
 pub element_is : (x id : Text) (at : Place) (subs : List Sub) → subs ≡ Alone (Ref id None at) ∷ [] → plain_expr (Ref x (Some subs) at) ≡ in_column id x
 element_is x id at subs e =

@@ -1,5 +1,5 @@
 -- The program for all columns, made from the source unit, is the wide unit.
-use Rattle.std.proofs.Common.{◌≡◌, ℕ, List, [], ◌∷◌, ◌++◌, map, Some, None, refl, ap, ◌∙◌}
+use Rattle.std.proofs.Common.{◌≡◌, ℕ, List, [], ◌∷◌, ◌++◌, map, None, refl, ap, ◌∙◌}
 use Rattle.fort_tree.specs.declared.unit.Intent.{Intent}
 use Rattle.fort_tree.specs.declared.unit.Intent.TheVariants.{In}
 use Rattle.claw_meaning.specs.Syntax.{Text, Expr, Assign, Decl, Stmts, Done, Then, Unit}
@@ -20,8 +20,14 @@ decls_are lower upper id (d ∷ ds) = ap (λ rest. wide_decl lower upper d ∷ r
 
 abbrev with : Scalars → List Decl → Stmts → Unit
 with u decls loop = record {
-  name = u.name; dummies = u.dummies ++ u.upper ∷ []; result = None; uses = []; decls = dummy_decl u.upper In ∷ (decls ++ local_decl u.id ∷ []);
-  marks = []; body = Then (guard u.lower u.upper) loop; host = None;
+  name = u.name;
+  dummies = u.dummies ++ u.upper ∷ [];
+  result = None;
+  uses = [];
+  decls = dummy_decl u.upper In ∷ (decls ++ local_decl u.id ∷ []);
+  marks = [];
+  body = Then (guard u.lower u.upper) loop;
+  host = None;
 }
 
 pub widened_is : (u : Scalars) → widened (source_unit u) ≡ wide_unit u

@@ -1,12 +1,12 @@
 -- A unit with column scalars as a unit for all columns: its names get the dimension as subscript, in one loop behind a guard.
-use Rattle.std.specs.Prelude.{◌<◌, ℕ, List, [], ◌∷◌, ◌++◌, map, length, Option, Some, None}
+use Rattle.std.specs.Prelude.{◌<◌, List, [], ◌∷◌, ◌++◌, map, length, Option, Some, None}
 use Rattle.fort_arith.specs.declared.kind.Kind.TheVariants.{I4}
 use Rattle.fort_arith.specs.declared.op.Op.TheVariants.{Lt}
 use Rattle.fort_tree.specs.declared.unit.Intent.TheVariants.{In}
 use Rattle.fort_tree.specs.declared.unit.Unit as tree
 use Rattle.fort_tree.specs.declared.stmt.Directive as directive
-use Rattle.claw_meaning.specs.Syntax.{Text, Expr, Numeral, Boolean, Name, Reference, Signed, Binary, Paren, Dimension, Decl, Directive, Stmt, Assign, Call, If, Select, Do, Block, Piece, Exit, Cycle, Return, Stmts, Done, Then, Arms, No_arm, Arm, Otherwise, Nothing_else, Unit}
-use Rattle.column_scalars.specs.Scalars.{in_column, wide_sum, local_decl}
+use Rattle.claw_meaning.specs.Syntax.{Text, Expr, Numeral, Name, Binary, Decl, Directive, Stmt, Assign, If, Do, Return, Stmts, Done, Then, No_arm, Arm, Nothing_else, Unit}
+use Rattle.column_scalars.specs.Scalars.{wide_sum, local_decl}
 
 abbrev pub first_name : List Text → Text
 first_name [] = []
@@ -53,9 +53,14 @@ looped_by d (Then s rest) = Then (loop_by d (wide_stmts (first_name d.names) (Th
 
 abbrev pub widened_by : Directive → Unit → Unit
 widened_by d u = record {
-  name = u.name; dummies = u.dummies ++ listed (bare_name d.upper); result = None; uses = [];
+  name = u.name;
+  dummies = u.dummies ++ listed (bare_name d.upper);
+  result = None;
+  uses = [];
   decls = map added_decl (listed (bare_name d.upper)) ++ (map (wide_decl_by d) u.decls ++ local_decl (first_name d.names) ∷ []);
-  marks = []; body = Then (guard_by d) (looped_by d u.body); host = None;
+  marks = [];
+  body = Then (guard_by d) (looped_by d u.body);
+  host = None;
 }
 
 abbrev pub no_directive : List Directive → Unit → Unit

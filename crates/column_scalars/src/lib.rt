@@ -7,7 +7,7 @@ mod widening;
 
 pub use laws::{does_as_modelled, keeps_columns, widened_is_wide_unit};
 pub use made::made_for_all_columns;
-pub use widening::widen;
+pub use widening::{has_dimension, widen};
 
 #[cfg(test)]
 mod tests;

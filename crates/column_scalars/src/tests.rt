@@ -1,4 +1,4 @@
-use crate::widen;
+use crate::{has_dimension, widen};
 use fort_tree::{
     Boxed, Decl, Directive, DirectiveWord, Expr, Intent, Kind, Name, Named, Op, Place, Seq, Stmt,
     Unit,
@@ -83,12 +83,20 @@ fn column_unit(alloc: Global, body: Seq<Stmt>) -> Result<Unit, Fail> {
     })
 }
 
+fn widened(alloc: Global, body: Seq<Stmt>) -> Result<Unit, Fail> {
+    let unit = column_unit(alloc, body)?;
+    if !has_dimension(&unit) {
+        return Err("no dimension".into());
+    }
+    Ok(widen(alloc, &unit)?)
+}
+
 #[test]
 fn widens_a_unit(rt: HostRuntime) -> Result<(), Fail> {
     let alloc = rt.alloc();
     let mut body = Seq::new(alloc);
     body.push(sum(alloc)?)?;
-    let wide = widen(alloc, &column_unit(alloc, body)?)?;
+    let wide = widened(alloc, body)?;
     let last = wide.dummies.items().last().ok_or("no dummy")?;
     assert_eq!(rt; wide.dummies.len(), 3);
     assert_eq!(rt; last.name, name_of(b"n")?);
@@ -104,7 +112,7 @@ fn widens_a_unit(rt: HostRuntime) -> Result<(), Fail> {
 #[test]
 fn leaves_no_loop_round_nothing(rt: HostRuntime) -> Result<(), Fail> {
     let alloc = rt.alloc();
-    let wide = widen(alloc, &column_unit(alloc, Seq::new(alloc))?)?;
+    let wide = widened(alloc, Seq::new(alloc))?;
     assert_eq!(rt; wide.body.len(), 1);
     Ok(())
 }

@@ -1,6 +1,6 @@
 //! The program for all columns of a unit of column scalars.
 
-ghost use Rattle.std.specs.Prelude.{◌≡◌, ◌<◌, List, [], ◌∷◌, ◌++◌, map, length, Option, Some, None, IfOk, option_map};
+ghost use Rattle.std.specs.Prelude.{◌≡◌, ◌↔◌, ◌<◌, List, [], ◌∷◌, ◌++◌, map, length, Option, Some, None, IsTrue, IfOk, option_map};
 ghost use Rattle.claw_meaning.specs.Syntax.{Then, Done};
 ghost use Rattle.claw_meaning.specs.Plain.{plain_expr, plain_option, plain_stmt, plain_stmts, plain_decl, plain_directive, plain_unit};
 ghost use Rattle.column_scalars.specs.Scalars.{wide_sum, in_column, local_decl};
@@ -29,6 +29,16 @@ pub fn widen(alloc: Global, unit: &Unit) -> Result<Unit, NoMemory>
     widen_by(alloc, define, unit)
 }
 
+/// Whether the unit has a first directive that names a dimension, as `widen` needs.
+pub fn has_dimension(unit: &Unit) -> bool
+    ensures { IsTrue result ↔ HasDimension unit.now }
+{
+    match unit.marks.items() {
+        [] => false,
+        [define, ..] => !define.names.is_empty(),
+    }
+}
+
 /// The program for all columns, by this directive.
 fn widen_by(alloc: Global, define: &Directive, unit: &Unit) -> Result<Unit, NoMemory>
     requires { 0 < length define.now.names }
@@ -50,14 +60,21 @@ fn widen_by(alloc: Global, define: &Directive, unit: &Unit) -> Result<Unit, NoMe
 // Dummies and declarations
 
 /// The dummies, the added one last.
-fn wide_dummies(alloc: Global, define: &Directive, dummies: &Seq<Named>) -> Result<Seq<Named>, NoMemory>
+fn wide_dummies(
+    alloc: Global,
+    define: &Directive,
+    dummies: &Seq<Named>,
+) -> Result<Seq<Named>, NoMemory>
     ensures { IfOk result (λ all. map (λ d. d.name) all ≡ map (λ d. d.name) dummies.now ++ listed (bare_name (plain_option define.now.upper))) }
 {
-    let mut all = dummies.copied(alloc)?;
+    let mut named = dummies.copied(alloc)?;
     if let Some(name) = upper_name(define) {
-        all.push(Named { name, at: define.at })?;
+        named.push(Named {
+            name,
+            at: define.at,
+        })?;
     }
-    Ok(all)
+    Ok(named)
 }
 
 /// The dimension's name.
@@ -84,7 +101,8 @@ fn name_alone(expr: &Expr) -> Option<Name>
     match expr {
         Expr::Ref(name, None, _) => Some(*name),
         Expr::Ref(_, Some(_), _) => None,
-        Expr::Number(..) | Expr::Truth(..) | Expr::One(..) | Expr::Two(..) | Expr::Paren(..) => None,
+        Expr::Number(..) | Expr::Truth(..) | Expr::One(..) | Expr::Two(..) | Expr::Paren(..) =>
+            None,
     }
 }
 

@@ -34,7 +34,6 @@ block_of arms o n e =
     let chosen : Bool → List Row → List Row = λ b rs. if b then one_line_rows arms n rs else block_rows arms o n rs in
     ap chosen e
 
-
 pub if_none_is : (x : Stmt) (p : Place) (arms : List Arm) (o : Option (List Stmt)) (l : List Arm) (n : ℕ) → x ≡ stmt.If p arms o → o ≡ None → l ≡ arms → is_one_line (map print_arm l) None ≡ false →
     (print x).rows n ≡ (λ rs. arm_rows (map print_arm l) n (one_row (pair (codes "end") (codes "if")) n rs))
 if_none_is x p arms o l n e d a h =

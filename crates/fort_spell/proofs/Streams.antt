@@ -7,8 +7,9 @@ use Rattle.std.proofs.lemmas.Grind.{common_steps}
 use Rattle.std.proofs.lemmas.Bool.Decides.{nat_tests}
 use Rattle.std.proofs.lemmas.Bool.{true≢false}
 use Rattle.std.proofs.Common.{length-append}
-use Rattle.std.proofs.lemmas.List.{length-replicate}
-use Rattle.outside.specs.Causes.{Rose, Took, TookPrefix}
+use Rattle.std.proofs.lemmas.List.{length-replicate, length-drop}
+use Rattle.outside.specs.Counts.{Rose}
+use Rattle.outside.specs.Taken.{Took, TookPrefix}
 use Rattle.fort_spell.specs.Stream.{Went, Broke, Rested, ways, Left, Put, Opened, Closed, bytes_alone, rows_shown, starting}
 use Rattle.fort_spell.specs.declared.line.Margin.{Margin}
 use Rattle.fort_spell.specs.Text.{blanks, first_margin, margin_text, sentinel_text}
@@ -42,7 +43,7 @@ went_broke : {K : Type 0} {a b c : Option (List ℕ)} {f g h : ℕ} {u v : K →
 went_broke {a = a} {b = b} {c = c} {f = f} {g = g} {h = h} {u = u} p q = record {
   bytes = p.bytes ++ q.bytes;
   taken = took_both a b c p.bytes q.bytes p.taken q.taken;
-  prefix = λ k. ((q.prefix k).0, append_assoc p.bytes q.bytes (q.prefix k).0 ∙ ap (λ z. p.bytes ++ z) (q.prefix k).1 ∙ p.whole k);
+  prefix = λ k. ((q.prefix k).0, ((q.prefix k).1.0, append_assoc p.bytes q.bytes (q.prefix k).0 ∙ ap (λ z. p.bytes ++ z) (q.prefix k).1.1 ∙ p.whole k));
   rose = later_rose f g h p.later q.rose;
   later = omega (arith, p.later, q.later);
 }
@@ -75,14 +76,14 @@ ways_within (Err x) (Err y) a b f g u v w p = record { same = p.same; later = p.
 -- More text stands behind.
 pub ways_behind : {K Q R E : Type 0} (x : Result Q E) (y : Result R E) (a b : Option (List ℕ)) (f g : ℕ) (u : Q → K → List ℕ) (v : R → K → List ℕ) (t : K → List ℕ) → ways x y a b f g u v → ways x y a b f g (λ s k. u s k ++ t k) (λ s k. v s k ++ t k)
 ways_behind (Ok x) (Ok y) a b f g u v t p = record { bytes = p.bytes; taken = p.taken; whole = λ k. sym (append_assoc p.bytes (v y k) (t k)) ∙ ap (λ z. z ++ t k) (p.whole k); later = p.later }
-ways_behind (Ok x) (Err y) a b f g u v t p = record { bytes = p.bytes; taken = p.taken; prefix = λ k. ((p.prefix k).0 ++ t k, sym (append_assoc p.bytes (p.prefix k).0 (t k)) ∙ ap (λ z. z ++ t k) (p.prefix k).1); rose = p.rose; later = p.later }
+ways_behind (Ok x) (Err y) a b f g u v t p = record { bytes = p.bytes; taken = p.taken; prefix = λ k. ((p.prefix k).0 ++ t k, (omega (arith, length-append (p.prefix k).0 (t k), (p.prefix k).1.0), sym (append_assoc p.bytes (p.prefix k).0 (t k)) ∙ ap (λ z. z ++ t k) (p.prefix k).1.1)); rose = p.rose; later = p.later }
 ways_behind (Err x) (Ok y) a b f g u v t p = p
 ways_behind (Err x) (Err y) a b f g u v t p = record { same = p.same; later = p.later }
 
 -- The same text in other words.
 pub ways_as : {K Q R E : Type 0} (x : Result Q E) (y : Result R E) (a b : Option (List ℕ)) (f g : ℕ) (u w : Q → K → List ℕ) (v t : R → K → List ℕ) → ((s : Q) (k : K) → u s k ≡ w s k) → ((s : R) (k : K) → v s k ≡ t s k) → ways x y a b f g u v → ways x y a b f g w t
 ways_as (Ok x) (Ok y) a b f g u w v t d e p = record { bytes = p.bytes; taken = p.taken; whole = λ k. ap (λ z. p.bytes ++ z) (sym (e y k)) ∙ p.whole k ∙ d x k; later = p.later }
-ways_as (Ok x) (Err y) a b f g u w v t d e p = record { bytes = p.bytes; taken = p.taken; prefix = λ k. ((p.prefix k).0, (p.prefix k).1 ∙ d x k); rose = p.rose; later = p.later }
+ways_as (Ok x) (Err y) a b f g u w v t d e p = record { bytes = p.bytes; taken = p.taken; prefix = λ k. ((p.prefix k).0, ((p.prefix k).1.0, (p.prefix k).1.1 ∙ d x k)); rose = p.rose; later = p.later }
 ways_as (Err x) (Ok y) a b f g u w v t d e p = p
 ways_as (Err x) (Err y) a b f g u w v t d e p = record { same = p.same; later = p.later }
 
@@ -151,7 +152,7 @@ bytes_way (Ok u) a b f g w later took part rose = record { bytes = w; taken = to
 bytes_way (Err e) a b f g w later took part rose = record {
   bytes = take part.count w;
   taken = part.taken;
-  prefix = λ k. (drop part.count w ++ k, sym (append_assoc (take part.count w) (drop part.count w) k) ∙ ap (λ z. z ++ k) (take-append-drop part.count w));
+  prefix = λ k. (drop part.count w ++ k, (omega (arith, length-append (drop part.count w) k, length-drop part.count w, part.within), sym (append_assoc (take part.count w) (drop part.count w) k) ∙ ap (λ z. z ++ k) (take-append-drop part.count w)));
   rose = rose;
   later = later;
 }
@@ -180,7 +181,7 @@ shown_err : {K Q E : Type 0} (shown : Q → K → List ℕ) (p q : Q) (r : Resul
     ((k : K) → w (shown q k) ≡ shown p (part k)) → ways (starting {E = E}) r a b f g (λ s k. w k) (bytes_alone {Q = Unit {0}}) → Broke a b f g (λ k. shown p (part k))
 shown_err {E = E} shown p q r d a b f g w part e same way =
     let broke : Broke a b f g (λ k. w k) = subst (λ (z : Result (Unit {0}) E). ways (starting {E = E}) z a b f g (λ s k. w k) (bytes_alone {Q = Unit {0}})) e way in
-    record { bytes = broke.bytes; taken = broke.taken; prefix = λ k. ((broke.prefix (shown q k)).0, (broke.prefix (shown q k)).1 ∙ same k); rose = broke.rose; later = broke.later }
+    record { bytes = broke.bytes; taken = broke.taken; prefix = λ k. ((broke.prefix (shown q k)).0, ((broke.prefix (shown q k)).1.0, (broke.prefix (shown q k)).1.1 ∙ same k)); rose = broke.rose; later = broke.later }
 
 pub shown_put : {K Q E : Type 0} (shown : Q → K → List ℕ) (x : Result Q E) (p q : Q) (r : Result (Unit {0}) E) (u : Unit {0}) (a b : Option (List ℕ)) (f g : ℕ) (w : List ℕ → List ℕ) (part : K → K) → x ≡ Ok p → r ≡ Ok u →
     ((k : K) → w (shown q k) ≡ shown p (part k)) → Put bytes_alone (starting {E = E}) r a b f g w → Put shown x (Ok q) a b f g part
@@ -194,8 +195,10 @@ broken_way shown (Err y) p a b f g part e broke = broke
 pub shown_broken : {K Q E : Type 0} (shown : Q → K → List ℕ) (x y : Result Q E) (p q : Q) (r : Result (Unit {0}) E) (d : E) (a b : Option (List ℕ)) (f g : ℕ) (w : List ℕ → List ℕ) (part : K → K) → x ≡ Ok p → r ≡ Err d → IsErr y →
     ((k : K) → w (shown q k) ≡ shown p (part k)) → Put bytes_alone (starting {E = E}) r a b f g w → Put shown x y a b f g part
 shown_broken {Q = Q} {E = E} shown x y p q r d a b f g w part e h i same put =
-    record { way = subst (λ (z : Result Q E). ways z y a b f g (λ s k. shown s (part k)) shown) (sym e)
-        (broken_way shown y p a b f g part i (shown_err shown p q r d a b f g w part h same put.way)) }
+    record {
+      way = subst (λ (z : Result Q E). ways z y a b f g (λ s k. shown s (part k)) shown) (sym e)
+          (broken_way shown y p a b f g part i (shown_err shown p q r d a b f g w part h same put.way));
+    }
 
 -- TOKENS
 
@@ -225,7 +228,7 @@ token_broken m col c s t x y e n h k =
     let large : 130 < col + length (lead s) + length (text_of t) = omega (arith, h, widths t x y e) in
     rw (breaks (col + length (lead s) + length (text_of t)) large)
     (ap (λ z. codes " &\n" ++ z) (sym (append_assoc (blanks (m.indent + 4)) (sentinel_text m.sentinel) (x ++ (y ++ laid m c k)))
-        ∙ ap (λ z. margin_text m ++ z) (sym (append_assoc x y (laid m c k)) ∙ ap (λ z. z ++ laid m c k) (sym e) ∙ ap (λ z. text_of t ++ laid m z k) same)))
+    ∙ ap (λ z. margin_text m ++ z) (sym (append_assoc x y (laid m c k)) ∙ ap (λ z. z ++ laid m c k) (sym e) ∙ ap (λ z. text_of t ++ laid m z k) same)))
 
 -- The pieces of a node are those of its parts.
 pub put_is : {K Q E : Type 0} {shown : Q → K → List ℕ} {x y : Result Q E} {a b : Option (List ℕ)} {f g : ℕ} {u : K → K} (part : K → K) → Put shown x y a b f g u → part ≡ u → Put shown x y a b f g part
@@ -293,8 +296,8 @@ end_part : {E : Type 0} (r : Result (Unit {0}) E) (a b : Option (List ℕ)) (f g
 end_part (Ok x) a b f g u p = tt
 end_part (Err x) a b f g u p = record {
   count = length p.bytes;
-  within = omega (arith, ap length (p.prefix []).1, length-append p.bytes (p.prefix []).0);
-  taken = subst (λ z. Took a b z) (sym (prefix_of p.bytes (p.prefix []).0 (text (u [])) (p.prefix []).1)) p.taken;
+  within = omega (arith, ap length (p.prefix []).1.1, length-append p.bytes (p.prefix []).0, (p.prefix []).1.0);
+  taken = subst (λ z. Took a b z) (sym (prefix_of p.bytes (p.prefix []).0 (text (u [])) (p.prefix []).1.1)) p.taken;
 }
 
 end_rose : {E : Type 0} (r : Result (Unit {0}) E) (a b : Option (List ℕ)) (f g : ℕ) (u : List Row → List Row) → ways (starting {E = E}) r a b f g (λ s k. text (u k)) (rows_shown {Q = Unit {0}}) → OnErr r (Rose f g)

@@ -1,9 +1,10 @@
 -- What a printer puts. Between two calls it has come to a state, or the sink has failed; then nothing more is put.
-use Rattle.std.specs.Prelude.{◌≡◌, ℕ, ◌≤◌, List, [], ◌++◌, Result, Ok, Err, codes}
+use Rattle.std.specs.Prelude.{◌≡◌, ℕ, ◌<◌, ◌≤◌, List, [], ◌++◌, length, Result, Ok, Err, codes}
 use Rattle.std.specs.declared.option.Option.{Option}
 use Rattle.fort_spell.specs.declared.line.Margin.{Margin}
 use Rattle.fort_spell.specs.Rows.{Row, laid, line, text}
-use Rattle.outside.specs.Causes.{Rose, Took}
+use Rattle.outside.specs.Counts.{Rose}
+use Rattle.outside.specs.Taken.{Took}
 
 -- The sink took exactly the bytes that lie between the text of the part before and that of what is left of it,
 -- whatever stands behind.
@@ -13,11 +14,11 @@ pub record Went {K : Type 0} (before now : Option (List ℕ)) (faults risen : �
   pub whole : (k : K) → bytes ++ rest k ≡ part k
   pub later : faults ≤ risen
 
--- The sink took a prefix of the text of the part, whatever stands behind, and failed.
+-- The sink took a first part that is shorter than the text of the part, whatever stands behind, and failed.
 pub record Broke {K : Type 0} (before now : Option (List ℕ)) (faults risen : ℕ) (part : K → List ℕ) : Type 0 where
   pub bytes : List ℕ
   pub taken : Took before now bytes
-  pub prefix : (k : K) → (rest : List ℕ) × (bytes ++ rest ≡ part k)
+  pub prefix : (k : K) → (rest : List ℕ) × ((0 < length rest) × (bytes ++ rest ≡ part k))
   pub rose : Rose faults risen
   pub later : faults ≤ risen
 

@@ -31,12 +31,7 @@ pub fn put_assign<S: Sink>(
 }
 
 /// Puts the arguments of a CALL, where there are any.
-fn put_arguments<S: Sink>(
-    args: &[Sub],
-    margin: Margin,
-    reached: Reached,
-    sink: &mut S,
-) -> Reached
+fn put_arguments<S: Sink>(args: &[Sub], margin: Margin, reached: Reached, sink: &mut S) -> Reached
     requires { margin.indent ≤ 40 }
     ensures { Put (laid margin) reached result (S.taken sink.old) (S.taken sink.new) (S.faults sink.old) (S.faults sink.new) (argument_pieces args.now) }
 {
@@ -207,12 +202,7 @@ pub fn put_call_row<S: Sink>(
 }
 
 /// Puts the step of a DO, where one is given.
-fn put_step<S: Sink>(
-    step: &Option<Expr>,
-    margin: Margin,
-    reached: Reached,
-    sink: &mut S,
-) -> Reached
+fn put_step<S: Sink>(step: &Option<Expr>, margin: Margin, reached: Reached, sink: &mut S) -> Reached
     requires { margin.indent ≤ 40 }
     ensures { Put (laid margin) reached result (S.taken sink.old) (S.taken sink.new) (S.faults sink.old) (S.faults sink.new) (step_pieces step.now) }
 {

@@ -12,3 +12,6 @@ mod text;
 mod units;
 
 pub use text::spell;
+
+#[cfg(test)]
+mod tests;

@@ -22,13 +22,7 @@ pub trait InRow {
 
     ghost pieces: { Self → Spelling };
 
-    fn put<S: Sink>(
-        &self,
-        spaced: bool,
-        margin: Margin,
-        reached: Reached,
-        sink: &mut S,
-    ) -> Reached
+    fn put<S: Sink>(&self, spaced: bool, margin: Margin, reached: Reached, sink: &mut S) -> Reached
         requires { margin.indent ≤ 40 }
         ensures { Put (laid margin) reached result (S.taken sink.old) (S.taken sink.new) (S.faults sink.old) (S.faults sink.new) (pieces self.now spaced) };
 }

@@ -16,7 +16,11 @@ use outside::{Failed, Sink, put_all};
 pub type Reached = Result<usize, Failed>;
 
 /// Puts bytes.
-pub fn put_bytes<S: Sink>(text: &[u8], so_far: Result<(), Failed>, sink: &mut S) -> Result<(), Failed>
+pub fn put_bytes<S: Sink>(
+    text: &[u8],
+    so_far: Result<(), Failed>,
+    sink: &mut S,
+) -> Result<(), Failed>
     ensures { Put bytes_alone so_far result (S.taken sink.old) (S.taken sink.new) (S.faults sink.old) (S.faults sink.new) (λ k. text.now ++ k) }
 {
     so_far?;
@@ -24,7 +28,11 @@ pub fn put_bytes<S: Sink>(text: &[u8], so_far: Result<(), Failed>, sink: &mut S)
 }
 
 /// Puts so many blanks.
-pub fn put_blanks<S: Sink>(count: usize, so_far: Result<(), Failed>, sink: &mut S) -> Result<(), Failed>
+pub fn put_blanks<S: Sink>(
+    count: usize,
+    so_far: Result<(), Failed>,
+    sink: &mut S,
+) -> Result<(), Failed>
     ensures { Put bytes_alone so_far result (S.taken sink.old) (S.taken sink.new) (S.faults sink.old) (S.faults sink.new) (λ k. blanks count ++ k) }
 {
     let mut so_far = so_far;
@@ -36,12 +44,7 @@ pub fn put_blanks<S: Sink>(count: usize, so_far: Result<(), Failed>, sink: &mut 
 
 /// Puts a token's text, with a blank before it where it is spaced.
 #[tactic(auto, using(crate::proofs::Streams::put_both))]
-fn put_beside<S: Sink>(
-    text: &[u8],
-    ending: &[u8],
-    spaced: bool,
-    sink: &mut S,
-) -> Result<(), Failed>
+fn put_beside<S: Sink>(text: &[u8], ending: &[u8], spaced: bool, sink: &mut S) -> Result<(), Failed>
     ensures { Put bytes_alone (starting {E = Failed}) result (S.taken sink.old) (S.taken sink.new) (S.faults sink.old) (S.faults sink.new) (λ k. lead spaced ++ (text.now ++ (ending.now ++ k))) }
 {
     let so_far = put_blanks(lead_width(spaced), Ok(()), sink);

@@ -24,12 +24,7 @@ pub fn deeper(indent: usize) -> usize
 }
 
 /// Puts the private list of a mark line, where it has names.
-fn put_private<S: Sink>(
-    names: &[Name],
-    margin: Margin,
-    reached: Reached,
-    sink: &mut S,
-) -> Reached
+fn put_private<S: Sink>(names: &[Name], margin: Margin, reached: Reached, sink: &mut S) -> Reached
     requires { margin.indent ≤ 40 }
     ensures { Put (laid margin) reached result (S.taken sink.old) (S.taken sink.new) (S.faults sink.old) (S.faults sink.new) (private_pieces names.now) }
 {
@@ -198,7 +193,10 @@ pub fn put_stmt<S: Sink>(
             }
         },
         Stmt::Select {
-            on, arms, other, ..
+            on,
+            arms,
+            other,
+            ..
         } => {
             let so_far = put_select_row(on, indent, so_far, sink);
             let so_far = put_cases(arms.items(), indent, so_far, sink);
@@ -211,7 +209,10 @@ pub fn put_stmt<S: Sink>(
             }
         }
         Stmt::Loop {
-            head, body, mark, ..
+            head,
+            body,
+            mark,
+            ..
         } => {
             let so_far = put_mark_row(mark, indent, so_far, sink);
             let so_far = put_do_row(head, indent, so_far, sink);

@@ -1,6 +1,7 @@
 //! The text of a file.
 ghost use Rattle.std.specs.Prelude.{◌≤◌, OnErr, OnOk};
-ghost use Rattle.outside.specs.Causes.{Rose, Took, TookPrefix};
+ghost use Rattle.outside.specs.Counts.{Rose};
+ghost use Rattle.outside.specs.Taken.{Took, TookPrefix};
 ghost use Rattle.fort_spell.specs.Units.{layout_of};
 
 use crate::units::put_file;
@@ -9,7 +10,7 @@ use outside::{Failed, Sink};
 
 /// Puts the text of a file, in the layout of this project's own: one statement a line, lines of at most 132 columns. It takes no memory.
 ///
-/// `Failed` only where the sink's count of faults rose; a prefix of the text was put.
+/// `Failed` only where the sink's count of faults rose; a first part that is shorter than the text was put.
 pub fn spell<S: Sink>(file: &File, sink: &mut S) -> Result<(), Failed>
     ensures faults_later { S.faults sink.old ≤ S.faults sink.new }
     ensures took { OnOk result (Took (S.taken sink.old) (S.taken sink.new) (layout_of file.now)) }

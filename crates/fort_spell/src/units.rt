@@ -8,7 +8,9 @@ ghost use Rattle.fort_spell.specs.Units.{bytes_pieces, chosen_unit, contained_ro
 
 use crate::expressions::put_expr;
 use crate::line::{Margin, Sentinel};
-use crate::lists::{InRow, put_bracketed, put_end_row, put_items, put_pair_row, put_row, put_rows, put_word_row};
+use crate::lists::{
+    InRow, put_bracketed, put_end_row, put_items, put_pair_row, put_row, put_rows, put_word_row,
+};
 use crate::mark::Mark;
 use crate::put::{Reached, close_row, open_row, put_mark, put_name, put_number, put_word};
 use crate::statements::{deeper, put_body};
@@ -156,12 +158,7 @@ fn put_parameter<S: Sink>(
 }
 
 /// Puts a shape, where there is one.
-fn put_shape<S: Sink>(
-    shape: &[Bound],
-    margin: Margin,
-    reached: Reached,
-    sink: &mut S,
-) -> Reached
+fn put_shape<S: Sink>(shape: &[Bound], margin: Margin, reached: Reached, sink: &mut S) -> Reached
     requires { margin.indent ≤ 40 }
     ensures { Put (laid margin) reached result (S.taken sink.old) (S.taken sink.new) (S.faults sink.old) (S.faults sink.new) (shape_pieces shape.now) }
 {

@@ -34,7 +34,7 @@ put_stmt-returns-in-Loop g t c = put_is _ (put_both _ _ (put_both _ _ (put_both 
 pub put_stmt-returns-else-is_short : goal.put_stmt-returns-else-is_short
 put_stmt-returns-else-is_short g t c = put_is _ (put_both _ _ c.put_arms-so_far.ensures c.put_pair_row.ensures)
     (if_none_is _ _ _ _ _ c.args.indent c.in-If.is c.in-None.is c.items-else-is_short.ensures
-        (ap (λ q. is_one_line (map print_arm q) None) (c.items-else-is_short.ensures ∙ sym c.items-in-None.ensures) ∙ sym c.is_short.ensures ∙ c.if-is_short.false))
+    (ap (λ q. is_one_line (map print_arm q) None) (c.items-else-is_short.ensures ∙ sym c.items-in-None.ensures) ∙ sym c.is_short.ensures ∙ c.if-is_short.false))
 
 pub put_stmt-returns-in-Some : goal.put_stmt-returns-in-Some
 put_stmt-returns-in-Some g t c = put_is _ (put_both _ _ (put_both _ _ c.put_arms-so_far-in-Some.ensures c.put_else-so_far.ensures) c.put_pair_row-in-Some.ensures)

@@ -17,7 +17,7 @@ returns-in-Some g c =
     let file = c.args.file.now in
     let e : slice_get file.modules c.in-Module.number ≡ Some c.in-Some.host.now = ap (λ l. slice_get l c.in-Module.number) (sym c.items.ensures) ∙ sym c.module_at.ensures ∙ ap option_copied c.in-Some.is in
     put_is _ c.put_module.ensures (ap (λ i. item_rows file i 0) c.in-Module.is ∙ ap (λ o. listed_module (units_of c.in-Module.number file.units) o 0) e
-        ∙ ap (λ us. listed_module (units_of c.in-Module.number us) (Some c.in-Some.host.now) 0) (sym c.items-in-Some.ensures))
+    ∙ ap (λ us. listed_module (units_of c.in-Module.number us) (Some c.in-Some.host.now) 0) (sym c.items-in-Some.ensures))
 
 pub returns-in-None-unit_at : goal.returns-in-None-unit_at
 returns-in-None-unit_at g c =
