@@ -15,3 +15,5 @@ pub use text::spell;
 
 #[cfg(test)]
 mod tests;
+#[cfg(test)]
+mod trees;

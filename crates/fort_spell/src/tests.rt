@@ -1,223 +1,17 @@
 use crate::spell;
+use crate::trees::{
+    AT, arm, assign, bound, call, choice, decl, element, file_of, head, item, list, mark, marked,
+    name, named, number, one, pair, paren, printed, printed_body, printed_unit, repeat, scalar,
+    set, two, unit, var,
+};
 use fort_arith::{Kind, Op};
 use fort_tree::{
-    Arm, Bound, Boxed, Case, Decl, Directive, DirectiveWord, Expr, File, Head, Intent, Item,
-    Module, Name, Named, Place, Range, Seq, Stmt, Sub, Unary, Unit, Use,
+    Arm, Bound, Case, Decl, DirectiveWord, Expr, File, Head, Intent, Item, Module, Name, Named,
+    Range, Seq, Stmt, Sub, Unary, Unit, Use,
 };
 use outside::{MemSink, Numbers};
 use std::alloc::Global;
 use std::test::Fail;
-
-const AT: Place = Place {
-    file: 0,
-    line: 1,
-    column: 1,
-};
-
-fn name(text: &[u8]) -> Result<Name, Fail> {
-    Ok(Name::read(text).ok_or("no name")?)
-}
-
-fn named(text: &[u8]) -> Result<Named, Fail> {
-    Ok(Named {
-        name: name(text)?,
-        at: AT,
-    })
-}
-
-fn list<T: Drop, const N: usize>(alloc: Global, items: [T; N]) -> Result<Seq<T>, Fail> {
-    Ok(Seq::from_vec(Vec::from_array(alloc, items)?))
-}
-
-// EXPRESSIONS
-
-fn number(value: u64) -> Expr {
-    Expr::Number(value, None, AT)
-}
-
-fn var(text: &[u8]) -> Result<Expr, Fail> {
-    Ok(Expr::Ref(name(text)?, None, AT))
-}
-
-fn element<const N: usize>(alloc: Global, text: &[u8], subs: [Sub; N]) -> Result<Expr, Fail> {
-    Ok(Expr::Ref(name(text)?, Some(list(alloc, subs)?), AT))
-}
-
-/// `text(sub)`, both names.
-fn item(alloc: Global, text: &[u8], sub: &[u8]) -> Result<Expr, Fail> {
-    element(alloc, text, [Sub::One(var(sub)?)])
-}
-
-fn one(alloc: Global, op: Unary, part: Expr) -> Result<Expr, Fail> {
-    Ok(Expr::One(op, Boxed::new(alloc, part)?, AT))
-}
-
-fn two(alloc: Global, left: Expr, op: Op, right: Expr) -> Result<Expr, Fail> {
-    Ok(Expr::Two(op, Boxed::new(alloc, left)?, Boxed::new(alloc, right)?))
-}
-
-fn paren(alloc: Global, part: Expr) -> Result<Expr, Fail> {
-    Ok(Expr::Paren(Boxed::new(alloc, part)?, AT))
-}
-
-/// An operator between two names.
-fn pair(alloc: Global, left: &[u8], op: Op, right: &[u8]) -> Result<Expr, Fail> {
-    two(alloc, var(left)?, op, var(right)?)
-}
-
-// STATEMENTS
-
-fn assign(left: Expr, right: Expr) -> Stmt {
-    Stmt::Assign {
-        at: AT,
-        left,
-        right,
-    }
-}
-
-fn set(text: &[u8], right: Expr) -> Result<Stmt, Fail> {
-    Ok(assign(var(text)?, right))
-}
-
-fn call<const N: usize>(alloc: Global, text: &[u8], args: [Sub; N]) -> Result<Stmt, Fail> {
-    Ok(Stmt::Call {
-        at: AT,
-        name: named(text)?,
-        args: list(alloc, args)?,
-        forward: false,
-    })
-}
-
-fn arm<const N: usize>(alloc: Global, test: Expr, body: [Stmt; N]) -> Result<Arm, Fail> {
-    Ok(Arm {
-        test,
-        body: list(alloc, body)?,
-    })
-}
-
-fn choice<const N: usize>(alloc: Global, arms: [Arm; N]) -> Result<Stmt, Fail> {
-    Ok(Stmt::If {
-        at: AT,
-        arms: list(alloc, arms)?,
-        other: None,
-    })
-}
-
-fn head(text: &[u8], from: Expr, to: Expr) -> Result<Head, Fail> {
-    Ok(Head {
-        var: name(text)?,
-        at: AT,
-        from,
-        to,
-        step: None,
-    })
-}
-
-fn repeat<const N: usize>(alloc: Global, head: Head, body: [Stmt; N]) -> Result<Stmt, Fail> {
-    Ok(Stmt::Loop {
-        at: AT,
-        head,
-        body: list(alloc, body)?,
-        mark: None,
-    })
-}
-
-fn mark<const N: usize>(
-    alloc: Global,
-    word: DirectiveWord,
-    names: [Name; N],
-) -> Result<Directive, Fail> {
-    Ok(Directive {
-        at: AT,
-        word,
-        names: list(alloc, names)?,
-        over: None,
-        number: None,
-        group: None,
-        init: false,
-        lower: None,
-        upper: None,
-    })
-}
-
-/// `do k = 1, n` without a body, behind a mark line.
-fn marked(alloc: Global, mark: Directive) -> Result<Stmt, Fail> {
-    Ok(Stmt::Loop {
-        at: AT,
-        head: head(b"k", number(1), var(b"n")?)?,
-        body: Seq::new(alloc),
-        mark: Some(mark),
-    })
-}
-
-// UNITS
-
-fn bound(lower: Option<Expr>, upper: Option<Expr>) -> Bound {
-    Bound { lower, upper }
-}
-
-fn decl<const N: usize>(
-    alloc: Global,
-    text: &[u8],
-    kind: Kind,
-    intent: Option<Intent>,
-    shape: [Bound; N],
-) -> Result<Decl, Fail> {
-    Ok(Decl {
-        name: name(text)?,
-        at: AT,
-        kind,
-        intent,
-        shape: list(alloc, shape)?,
-        value: None,
-    })
-}
-
-fn scalar(alloc: Global, text: &[u8], intent: Option<Intent>) -> Result<Decl, Fail> {
-    decl(alloc, text, Kind::I4, intent, [])
-}
-
-/// An external subroutine of these dummies, with nothing in it.
-fn unit<const N: usize>(alloc: Global, text: &[u8], dummies: [Named; N]) -> Result<Unit, Fail> {
-    Ok(Unit {
-        name: name(text)?,
-        at: AT,
-        dummies: list(alloc, dummies)?,
-        result: None,
-        uses: Seq::new(alloc),
-        decls: Seq::new(alloc),
-        marks: Seq::new(alloc),
-        body: Seq::new(alloc),
-        host: None,
-    })
-}
-
-fn file_of(alloc: Global, unit: Unit) -> Result<File, Fail> {
-    Ok(File {
-        modules: Seq::new(alloc),
-        units: list(alloc, [unit])?,
-        order: list(alloc, [Item::Unit(0)])?,
-    })
-}
-
-fn printed(alloc: Global, file: &File) -> Result<MemSink, Fail> {
-    let mut sink = MemSink::new(alloc, 4000, Numbers::new(alloc))?;
-    spell(file, &mut sink)?;
-    Ok(sink)
-}
-
-fn printed_unit(alloc: Global, unit: Unit) -> Result<MemSink, Fail> {
-    printed(alloc, &file_of(alloc, unit)?)
-}
-
-/// These statements in the external subroutine `s()`.
-fn printed_body<const N: usize>(alloc: Global, body: [Stmt; N]) -> Result<MemSink, Fail> {
-    let mut unit = unit(alloc, b"s", [])?;
-    unit.body = list(alloc, body)?;
-    printed_unit(alloc, unit)
-}
-
-// TESTS
 
 /// `if (ncol < 1) return`.
 fn guard(alloc: Global) -> Result<Stmt, Fail> {
@@ -289,16 +83,31 @@ fn stops_at_a_failed_put(rt: HostRuntime) -> Result<(), Fail> {
     Ok(())
 }
 
+/// `-2**2`.
+fn negated_square(alloc: Global) -> Result<Expr, Fail> {
+    let square = two(alloc, number(2), Op::Pow, number(2))?;
+    one(alloc, Unary::Minus, square)
+}
+
+/// `(a-b)-(c-d)`.
+fn difference(alloc: Global) -> Result<Expr, Fail> {
+    let left = paren(alloc, pair(alloc, b"a", Op::Sub, b"b")?)?;
+    let right = paren(alloc, pair(alloc, b"c", Op::Sub, b"d")?)?;
+    two(alloc, left, Op::Sub, right)
+}
+
+/// `2**(-1)`.
+fn inverse(alloc: Global) -> Result<Expr, Fail> {
+    let exponent = paren(alloc, one(alloc, Unary::Minus, number(1))?)?;
+    two(alloc, number(2), Op::Pow, exponent)
+}
+
 #[test]
 fn keeps_parentheses(rt: HostRuntime) -> Result<(), Fail> {
     let alloc = rt.alloc();
-    let square = two(alloc, number(2), Op::Pow, number(2))?;
-    let x = set(b"x", one(alloc, Unary::Minus, square)?)?;
-    let left = paren(alloc, pair(alloc, b"a", Op::Sub, b"b")?)?;
-    let right = paren(alloc, pair(alloc, b"c", Op::Sub, b"d")?)?;
-    let y = set(b"y", two(alloc, left, Op::Sub, right)?)?;
-    let exponent = paren(alloc, one(alloc, Unary::Minus, number(1))?)?;
-    let z = set(b"z", two(alloc, number(2), Op::Pow, exponent)?)?;
+    let x = set(b"x", negated_square(alloc)?)?;
+    let y = set(b"y", difference(alloc)?)?;
+    let z = set(b"z", inverse(alloc)?)?;
     let sink = printed_body(alloc, [x, y, z])?;
     let wanted = "subroutine s()
   implicit none
@@ -311,27 +120,34 @@ end subroutine s
     Ok(())
 }
 
+/// `q(1:n,:,2:)`.
+fn sections(alloc: Global) -> Result<Expr, Fail> {
+    let part = Sub::Range(Some(number(1)), Some(var(b"n")?), AT);
+    let whole = Sub::Range(None, None, AT);
+    let from = Sub::Range(Some(number(2)), None, AT);
+    element(alloc, b"q", [part, whole, from])
+}
+
+/// `+f()*7_8`.
+fn suffixed(alloc: Global) -> Result<Expr, Fail> {
+    let called = one(alloc, Unary::Plus, element(alloc, b"f", [])?)?;
+    two(alloc, called, Op::Mul, Expr::Number(7, Some(Kind::I8), AT))
+}
+
+/// `.not. .false. .and. .true.`.
+fn truths(alloc: Global) -> Result<Expr, Fail> {
+    let not = one(alloc, Unary::Not, Expr::Truth(false, AT))?;
+    two(alloc, not, Op::And, Expr::Truth(true, AT))
+}
+
 #[test]
 fn puts_references(rt: HostRuntime) -> Result<(), Fail> {
     let alloc = rt.alloc();
-    let section = Sub::Range(Some(number(1)), Some(var(b"n")?), AT);
-    let whole = Sub::Range(None, None, AT);
-    let from = Sub::Range(Some(number(2)), None, AT);
-    let left = element(alloc, b"q", [section, whole, from])?;
-    let suffixed = two(
-        alloc,
-        Expr::Number(7, Some(Kind::I8), AT),
-        Op::Div,
-        Expr::Number(65535, Some(Kind::I2), AT),
-    )?;
-    let empty = element(alloc, b"f", [])?;
-    let sum = two(alloc, one(alloc, Unary::Plus, empty)?, Op::Mul, suffixed)?;
-    let not = one(alloc, Unary::Not, Expr::Truth(false, AT))?;
-    let test = two(alloc, not, Op::And, Expr::Truth(true, AT))?;
-    let sink = printed_body(alloc, [assign(left, sum), set(b"l", test)?])?;
+    let first = assign(sections(alloc)?, suffixed(alloc)?);
+    let sink = printed_body(alloc, [first, set(b"l", truths(alloc)?)?])?;
     let wanted = "subroutine s()
   implicit none
-  q(1:n,:,2:) = +f()*7_8/65535_2
+  q(1:n,:,2:) = +f()*7_8
   l = .not. .false. .and. .true.
 end subroutine s
 ";
@@ -392,14 +208,16 @@ fn puts_logical_operators(rt: HostRuntime) -> Result<(), Fail> {
     Ok(())
 }
 
+/// `a == b` with `x = 1`.
+fn equal_arm(alloc: Global) -> Result<Arm, Fail> {
+    let test = pair(alloc, b"a", Op::Eq, b"b")?;
+    arm(alloc, test, [set(b"x", number(1))?])
+}
+
 #[test]
 fn puts_an_if(rt: HostRuntime) -> Result<(), Fail> {
     let alloc = rt.alloc();
-    let first = arm(
-        alloc,
-        pair(alloc, b"a", Op::Eq, b"b")?,
-        [set(b"x", number(1))?],
-    )?;
+    let first = equal_arm(alloc)?;
     let second = arm(alloc, var(b"l")?, [])?;
     let chosen = Stmt::If {
         at: AT,
@@ -431,13 +249,18 @@ fn forwarded(alloc: Global) -> Result<Stmt, Fail> {
     })
 }
 
+/// The statement under `if (l)`.
+fn chosen(alloc: Global, stmt: Stmt) -> Result<Stmt, Fail> {
+    choice(alloc, [arm(alloc, var(b"l")?, [stmt])?])
+}
+
 #[test]
 fn puts_one_line_ifs(rt: HostRuntime) -> Result<(), Fail> {
     let alloc = rt.alloc();
-    let assigned = choice(alloc, [arm(alloc, var(b"l")?, [set(b"x", number(1))?])?])?;
-    let called = choice(alloc, [arm(alloc, var(b"l")?, [call(alloc, b"f", [])?])?])?;
-    let spread = choice(alloc, [arm(alloc, var(b"l")?, [forwarded(alloc)?])?])?;
-    let nested = choice(alloc, [arm(alloc, var(b"l")?, [guard(alloc)?])?])?;
+    let assigned = chosen(alloc, set(b"x", number(1))?)?;
+    let called = chosen(alloc, call(alloc, b"f", [])?)?;
+    let spread = chosen(alloc, forwarded(alloc)?)?;
+    let nested = chosen(alloc, guard(alloc)?)?;
     let sink = printed_body(alloc, [assigned, called, spread, nested])?;
     let wanted = "subroutine s()
   implicit none
@@ -455,27 +278,30 @@ end subroutine s
     Ok(())
 }
 
+/// `case (1, 3:5)` with `x = 1`.
+fn listed_case(alloc: Global) -> Result<Case, Fail> {
+    let span = Range::Span(Some(number(3)), Some(number(5)));
+    Ok(Case {
+        ranges: list(alloc, [Range::One(number(1)), span])?,
+        body: list(alloc, [set(b"x", number(1))?])?,
+    })
+}
+
+/// `case (:0)` with nothing.
+fn low_case(alloc: Global) -> Result<Case, Fail> {
+    Ok(Case {
+        ranges: list(alloc, [Range::Span(None, Some(number(0)))])?,
+        body: Seq::new(alloc),
+    })
+}
+
 #[test]
 fn puts_a_select(rt: HostRuntime) -> Result<(), Fail> {
     let alloc = rt.alloc();
-    let first = Case {
-        ranges: list(
-            alloc,
-            [
-                Range::One(number(1)),
-                Range::Span(Some(number(3)), Some(number(5))),
-            ],
-        )?,
-        body: list(alloc, [set(b"x", number(1))?])?,
-    };
-    let second = Case {
-        ranges: list(alloc, [Range::Span(None, Some(number(0)))])?,
-        body: Seq::new(alloc),
-    };
     let chosen = Stmt::Select {
         at: AT,
         on: var(b"k")?,
-        arms: list(alloc, [first, second])?,
+        arms: list(alloc, [listed_case(alloc)?, low_case(alloc)?])?,
         other: Some(list(alloc, [set(b"x", number(2))?])?),
     };
     let sink = printed_body(alloc, [chosen])?;
@@ -494,24 +320,38 @@ end subroutine s
     Ok(())
 }
 
-#[test]
-fn puts_loops_and_calls(rt: HostRuntime) -> Result<(), Fail> {
-    let alloc = rt.alloc();
+/// `do k = n, 1, -1`.
+fn falling(alloc: Global) -> Result<Head, Fail> {
     let mut steps = head(b"k", var(b"n")?, number(1))?;
     steps.step = Some(one(alloc, Unary::Minus, number(1))?);
+    Ok(steps)
+}
+
+/// `call one(q(k), :, 2)`.
+fn mixed_call(alloc: Global) -> Result<Stmt, Fail> {
     let args = [
         Sub::One(item(alloc, b"q", b"k")?),
         Sub::Range(None, None, AT),
         Sub::One(number(2)),
     ];
-    let called = call(alloc, b"one", args)?;
-    let body = [Stmt::Cycle(AT), called, Stmt::Exit(AT)];
-    let block = Stmt::Block {
+    call(alloc, b"one", args)
+}
+
+/// `x = 1` between a directive and its end.
+fn block(alloc: Global) -> Result<Stmt, Fail> {
+    Ok(Stmt::Block {
         at: AT,
         mark: mark(alloc, DirectiveWord::Transform, [])?,
         body: list(alloc, [set(b"x", number(1))?])?,
-    };
-    let sink = printed_body(alloc, [repeat(alloc, steps, body)?, block])?;
+    })
+}
+
+#[test]
+fn puts_loops_and_calls(rt: HostRuntime) -> Result<(), Fail> {
+    let alloc = rt.alloc();
+    let body = [Stmt::Cycle(AT), mixed_call(alloc)?, Stmt::Exit(AT)];
+    let turns = repeat(alloc, falling(alloc)?, body)?;
+    let sink = printed_body(alloc, [turns, block(alloc)?])?;
     let wanted = "subroutine s()
   implicit none
   do k = n, 1, -1
@@ -570,25 +410,37 @@ fn constant(alloc: Global, text: &[u8], kind: Kind, value: Expr) -> Result<Decl,
     Ok(made)
 }
 
+/// Two PARAMETERs.
+fn constants(alloc: Global) -> Result<Seq<Decl>, Fail> {
+    let seven = Expr::Number(7, Some(Kind::I1), AT);
+    let first = constant(alloc, b"n", Kind::I1, seven)?;
+    let second = constant(alloc, b"l", Kind::Logical, Expr::Truth(true, AT))?;
+    list(alloc, [first, second])
+}
+
+/// `a(1:,:)`.
+fn open_array(alloc: Global) -> Result<Decl, Fail> {
+    let shape = [bound(Some(number(1)), None), bound(None, None)];
+    decl(alloc, b"a", Kind::I2, Some(Intent::In), shape)
+}
+
+/// `b(0:n,3)`.
+fn closed_array(alloc: Global) -> Result<Decl, Fail> {
+    let first = bound(Some(number(0)), Some(var(b"n")?));
+    let second = bound(None, Some(number(3)));
+    decl(alloc, b"b", Kind::I8, Some(Intent::Out), [first, second])
+}
+
 #[test]
 fn puts_declarations(rt: HostRuntime) -> Result<(), Fail> {
     let alloc = rt.alloc();
-    let open = bound(Some(number(1)), None);
-    let taken = bound(None, None);
-    let both = bound(Some(number(0)), Some(var(b"n")?));
-    let last = bound(None, Some(number(3)));
     let mut unit = unit(alloc, b"s", [])?;
-    unit.decls = list(
-        alloc,
-        [
-            constant(alloc, b"n", Kind::I1, Expr::Number(7, Some(Kind::I1), AT))?,
-            constant(alloc, b"l", Kind::Logical, Expr::Truth(true, AT))?,
-            decl(alloc, b"a", Kind::I2, Some(Intent::In), [open, taken])?,
-            decl(alloc, b"b", Kind::I8, Some(Intent::Out), [both, last])?,
-            decl(alloc, b"c", Kind::Logical, Some(Intent::InOut), [])?,
-            scalar(alloc, b"d", None)?,
-        ],
-    )?;
+    unit.decls = constants(alloc)?;
+    unit.decls.push(open_array(alloc)?)?;
+    unit.decls.push(closed_array(alloc)?)?;
+    let flag = decl(alloc, b"c", Kind::Logical, Some(Intent::InOut), [])?;
+    unit.decls.push(flag)?;
+    unit.decls.push(scalar(alloc, b"d", None)?)?;
     let sink = printed_unit(alloc, unit)?;
     let wanted = "subroutine s()
   implicit none
@@ -628,27 +480,33 @@ fn use_of(text: &[u8], only: Option<Seq<Named>>) -> Result<Use, Fail> {
     })
 }
 
-/// A module with two functions, and an external unit before it.
-fn module_file(alloc: Global) -> Result<File, Fail> {
-    let mut outer = unit(alloc, b"s", [])?;
+/// A subroutine that uses two names of the module.
+fn user(alloc: Global) -> Result<Unit, Fail> {
     let names = list(alloc, [named(b"f")?, named(b"g")?])?;
-    outer.uses = list(alloc, [use_of(b"m", Some(names))?])?;
-    let host = Module {
+    let mut made = unit(alloc, b"s", [])?;
+    made.uses = list(alloc, [use_of(b"m", Some(names))?])?;
+    Ok(made)
+}
+
+fn host_module(alloc: Global) -> Result<Module, Fail> {
+    Ok(Module {
         name: name(b"m")?,
         at: AT,
         uses: list(alloc, [use_of(b"base", None)?])?,
         decls: list(alloc, [constant(alloc, b"n", Kind::I4, number(3))?])?,
-    };
+    })
+}
+
+/// A module with two functions, and an external unit before it.
+fn module_file(alloc: Global) -> Result<File, Fail> {
+    let units = [
+        function(alloc, b"f", b"f")?,
+        user(alloc)?,
+        function(alloc, b"g", b"r")?,
+    ];
     Ok(File {
-        modules: list(alloc, [host])?,
-        units: list(
-            alloc,
-            [
-                function(alloc, b"f", b"f")?,
-                outer,
-                function(alloc, b"g", b"r")?,
-            ],
-        )?,
+        modules: list(alloc, [host_module(alloc)?])?,
+        units: list(alloc, units)?,
         order: list(alloc, [Item::Unit(1), Item::Module(0)])?,
     })
 }
@@ -702,24 +560,26 @@ fn puts_a_bare_module(rt: HostRuntime) -> Result<(), Fail> {
     Ok(())
 }
 
+/// A loop with two private variables, on threads.
+fn threaded(alloc: Global) -> Result<Stmt, Fail> {
+    let names = [name(b"k")?, name(b"c")?];
+    marked(alloc, mark(alloc, DirectiveWord::OpenMpLoop, names)?)
+}
+
+/// A loop around one on a device.
+fn round_device(alloc: Global) -> Result<Stmt, Fail> {
+    let device = mark(alloc, DirectiveWord::OpenAccLoop, [name(b"k")?])?;
+    let inner = marked(alloc, device)?;
+    repeat(alloc, head(b"j", number(1), number(2))?, [inner])
+}
+
 #[test]
 fn puts_marks(rt: HostRuntime) -> Result<(), Fail> {
     let alloc = rt.alloc();
-    let threads = mark(alloc, DirectiveWord::OpenMpLoop, [name(b"k")?, name(b"c")?])?;
-    let plain = mark(alloc, DirectiveWord::OpenMpLoop, [])?;
-    let device = mark(alloc, DirectiveWord::OpenAccLoop, [name(b"k")?])?;
-    let routine = mark(alloc, DirectiveWord::Routine, [])?;
+    let plain = marked(alloc, mark(alloc, DirectiveWord::OpenMpLoop, [])?)?;
     let mut unit = unit(alloc, b"s", [])?;
-    unit.marks = list(alloc, [routine])?;
-    let inner = repeat(
-        alloc,
-        head(b"j", number(1), number(2))?,
-        [marked(alloc, device)?],
-    )?;
-    unit.body = list(
-        alloc,
-        [marked(alloc, threads)?, marked(alloc, plain)?, inner],
-    )?;
+    unit.marks = list(alloc, [mark(alloc, DirectiveWord::Routine, [])?])?;
+    unit.body = list(alloc, [threaded(alloc)?, plain, round_device(alloc)?])?;
     let sink = printed_unit(alloc, unit)?;
     let wanted = "subroutine s()
   implicit none
@@ -851,5 +711,30 @@ fn breaks_a_mark_line(rt: HostRuntime) -> Result<(), Fail> {
 end subroutine s
 ";
     assert_eq!(rt; sink.text(), wanted.as_bytes());
+    Ok(())
+}
+
+/// EXIT in so many loops.
+fn nested(alloc: Global, depth: usize) -> Result<Stmt, Fail> {
+    let mut inner = Stmt::Exit(AT);
+    for _ in 0..depth {
+        inner = repeat(alloc, head(b"k", number(1), number(2))?, [inner])?;
+    }
+    Ok(inner)
+}
+
+/// What stands deeper begins behind 40 blanks too.
+#[test]
+fn indents_by_forty_columns_at_most(rt: HostRuntime) -> Result<(), Fail> {
+    let cases = [
+        (18, "                                      exit"),
+        (19, "                                        exit"),
+        (20, "                                        exit"),
+    ];
+    for (depth, wanted) in cases {
+        let sink = printed_body(rt.alloc(), [nested(rt.alloc(), depth)?])?;
+        let text = str::from_utf8(sink.text())?;
+        assert_eq!(rt; text.lines().nth(depth + 2), Some(wanted), "{depth}");
+    }
     Ok(())
 }
