@@ -1,6 +1,8 @@
 //! Each law is called once.
 
-use crate::laws::{frames_are_stores, orderly_runs_agree, runs_are_apart, runs_are_local, runs_can_move};
+use crate::laws::{
+    frames_are_stores, orderly_runs_agree, runs_are_apart, runs_are_local, runs_can_move,
+};
 use crate::rows::{lost_update, scalars_in_columns, small_runs};
 
 #[test]

@@ -3,9 +3,11 @@ use outside::{FileList, MemShelf, MemSink, Numbers};
 use std::alloc::{AllocError, Global};
 use std::test::Fail;
 
-const SOURCE: &str = "subroutine add(a, b)\n  integer, intent(in) :: a\n  integer, intent(inout) :: b\n  !$claw define dimension col(1:ncol) parallelize data(a, b)\n  b = b + a*2\nend subroutine add\n";
+const SOURCE: &str =
+    "subroutine add(a, b)\n  integer, intent(in) :: a\n  integer, intent(inout) :: b\n  !$claw define dimension col(1:ncol) parallelize data(a, b)\n  b = b + a*2\nend subroutine add\n";
 
-const TRANSLATED: &str = "subroutine add(a, b, ncol)\n  implicit none\n  integer, intent(in) :: ncol\n  integer, intent(in) :: a(1:ncol)\n  integer, intent(inout) :: b(1:ncol)\n  integer :: col\n  if (ncol < 1) return\n  do col = 1, ncol\n    b(col) = b(col)+a(col)*2\n  end do\nend subroutine add\n";
+const TRANSLATED: &str =
+    "subroutine add(a, b, ncol)\n  implicit none\n  integer, intent(in) :: ncol\n  integer, intent(in) :: a(1:ncol)\n  integer, intent(inout) :: b(1:ncol)\n  integer :: col\n  if (ncol < 1) return\n  do col = 1, ncol\n    b(col) = b(col)+a(col)*2\n  end do\nend subroutine add\n";
 
 // Numbers of calls that fail, of which 0 is none.
 fn failing(alloc: Global, number: u64) -> Result<Numbers, AllocError> {
@@ -61,9 +63,18 @@ fn refusals(rt: HostRuntime) -> Result<(), Fail> {
     let words = ["claw", "translate", "one.f90"];
     let cases = [
         ("module m\n", "one.f90:1:1: E20 not in the profile 13\n"),
-        ("\n\n\n\n\n\n\n\n\n  end\n", "one.f90:10:1: E20 not in the profile 13\n"),
-        ("subroutine s(a)\n  call f\n", "one.f90:2:1: E20 not in the profile 13\n"),
-        ("subroutine s(a)\n", "one.f90:1:1: E20 not in the profile 13\n"),
+        (
+            "\n\n\n\n\n\n\n\n\n  end\n",
+            "one.f90:10:1: E20 not in the profile 13\n",
+        ),
+        (
+            "subroutine s(a)\n  call f\n",
+            "one.f90:2:1: E20 not in the profile 13\n",
+        ),
+        (
+            "subroutine s(a)\n",
+            "one.f90:1:1: E20 not in the profile 13\n",
+        ),
     ];
     for (source, report) in cases {
         let mut shelf = shelf_of(rt.alloc(), source)?;
@@ -81,7 +92,11 @@ fn refusals(rt: HostRuntime) -> Result<(), Fail> {
 fn words_and_files(rt: HostRuntime) -> Result<(), Fail> {
     let usage = "usage: claw translate, check, run, run-target or gen\n";
     let cases: [(&[&str], u8, &str); 10] = [
-        (&["claw", "translate", "two.f90"], 3, "cannot read two.f90\n"),
+        (
+            &["claw", "translate", "two.f90"],
+            3,
+            "cannot read two.f90\n",
+        ),
         (&["claw", "translate", "-"], 3, "cannot read -\n"),
         (&["claw", "translate", ""], 3, "cannot read \n"),
         (&[], 2, usage),
@@ -96,7 +111,11 @@ fn words_and_files(rt: HostRuntime) -> Result<(), Fail> {
         let mut shelf = shelf_of(rt.alloc(), SOURCE)?;
         let mut out = sink(rt.alloc())?;
         let mut err = sink(rt.alloc())?;
-        assert_eq!(rt; claw(rt.alloc(), words, &mut shelf, &mut out, &mut err), status, "{text}");
+        assert_eq!(rt;
+            claw(rt.alloc(), words, &mut shelf, &mut out, &mut err),
+            status,
+            "{text}"
+        );
         assert!(rt; err.text() == text.as_bytes(), "{text}");
         assert!(rt; out.text().is_empty(), "{text}");
     }
@@ -114,7 +133,10 @@ fn longest_source(rt: HostRuntime) -> Result<(), Fail> {
         let mut shelf = MemShelf::new(files, Numbers::new(rt.alloc()));
         let mut out = sink(rt.alloc())?;
         let mut err = sink(rt.alloc())?;
-        assert_eq!(rt; claw(rt.alloc(), &words, &mut shelf, &mut out, &mut err), status);
+        assert_eq!(rt;
+            claw(rt.alloc(), &words, &mut shelf, &mut out, &mut err),
+            status
+        );
         assert!(rt; err.text() == text.as_bytes());
         assert!(rt; out.text().is_empty());
         source.truncate(4194304);
@@ -166,7 +188,11 @@ fn failing_text(rt: HostRuntime) -> Result<(), Fail> {
         let mut out = MemSink::new(rt.alloc(), 1000, failing(rt.alloc(), put)?)?;
         let mut err = sink(rt.alloc())?;
         out.narrow(1);
-        assert_eq!(rt; claw(rt.alloc(), &words, &mut shelf, &mut out, &mut err), 4, "put {put}");
+        assert_eq!(rt;
+            claw(rt.alloc(), &words, &mut shelf, &mut out, &mut err),
+            4,
+            "put {put}"
+        );
         assert!(rt; err.text().is_empty());
         assert!(rt; TRANSLATED.as_bytes().starts_with(out.text()), "put {put}");
         assert_eq!(rt; out.text().len() as u64, put - 1, "put {put}");

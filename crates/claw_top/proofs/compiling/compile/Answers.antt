@@ -15,4 +15,4 @@ pub returns-in_ok-alone-in-Unit : goal.returns-in_ok-alone-in-Unit
 returns-in_ok-alone-in-Unit c =
     subst (λ file. Translation c.args.source.now (layout_of file)) (sym c.in_ok-alone-in-Unit.ensures)
     (unit_translation c.args.source.now c.in-Unit.unit c.in_ok-wide-in-Unit.wide
-        (subst (λ reading. IsReading 0 c.args.source.now reading) c.in-Unit.is c.in_ok-read.ensures) c.in_ok-wide-in-Unit.ensures)
+    (subst (λ reading. IsReading 0 c.args.source.now reading) c.in-Unit.is c.in_ok-read.ensures) c.in_ok-wide-in-Unit.ensures)
