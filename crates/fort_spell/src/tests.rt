@@ -431,25 +431,62 @@ fn closed_array(alloc: Global) -> Result<Decl, Fail> {
     decl(alloc, b"b", Kind::I8, Some(Intent::Out), [first, second])
 }
 
-#[test]
-fn puts_declarations(rt: HostRuntime) -> Result<(), Fail> {
-    let alloc = rt.alloc();
-    let mut unit = unit(alloc, b"s", [])?;
-    unit.decls = constants(alloc)?;
-    unit.decls.push(open_array(alloc)?)?;
-    unit.decls.push(closed_array(alloc)?)?;
+/// A dummy and a variable.
+fn scalars(alloc: Global) -> Result<Seq<Decl>, Fail> {
     let flag = decl(alloc, b"c", Kind::Logical, Some(Intent::InOut), [])?;
-    unit.decls.push(flag)?;
-    unit.decls.push(scalar(alloc, b"d", None)?)?;
-    let sink = printed_unit(alloc, unit)?;
+    let count = scalar(alloc, b"d", None)?;
+    list(alloc, [flag, count])
+}
+
+/// A unit of these declarations.
+fn declaring(alloc: Global, decls: Seq<Decl>) -> Result<Unit, Fail> {
+    let mut made = unit(alloc, b"s", [])?;
+    made.decls = decls;
+    Ok(made)
+}
+
+#[test]
+fn puts_scalar_declarations(rt: HostRuntime) -> Result<(), Fail> {
+    let alloc = rt.alloc();
+    let sink = printed_unit(alloc, declaring(alloc, scalars(alloc)?)?)?;
+    let wanted = "subroutine s()
+  implicit none
+  logical, intent(inout) :: c
+  integer :: d
+end subroutine s
+";
+    assert_eq!(rt; sink.text(), wanted.as_bytes());
+    Ok(())
+}
+
+#[test]
+fn puts_parameters(rt: HostRuntime) -> Result<(), Fail> {
+    let alloc = rt.alloc();
+    let sink = printed_unit(alloc, declaring(alloc, constants(alloc)?)?)?;
     let wanted = "subroutine s()
   implicit none
   integer(1), parameter :: n = 7_1
   logical, parameter :: l = .true.
+end subroutine s
+";
+    assert_eq!(rt; sink.text(), wanted.as_bytes());
+    Ok(())
+}
+
+fn arrays(alloc: Global) -> Result<Seq<Decl>, Fail> {
+    let first = open_array(alloc)?;
+    let second = closed_array(alloc)?;
+    list(alloc, [first, second])
+}
+
+#[test]
+fn puts_array_declarations(rt: HostRuntime) -> Result<(), Fail> {
+    let alloc = rt.alloc();
+    let sink = printed_unit(alloc, declaring(alloc, arrays(alloc)?)?)?;
+    let wanted = "subroutine s()
+  implicit none
   integer(2), intent(in) :: a(1:,:)
   integer(8), intent(out) :: b(0:n,3)
-  logical, intent(inout) :: c
-  integer :: d
 end subroutine s
 ";
     assert_eq!(rt; sink.text(), wanted.as_bytes());
@@ -573,14 +610,24 @@ fn round_device(alloc: Global) -> Result<Stmt, Fail> {
     repeat(alloc, head(b"j", number(1), number(2))?, [inner])
 }
 
+fn marked_loops(alloc: Global) -> Result<Seq<Stmt>, Fail> {
+    let first = threaded(alloc)?;
+    let plain = mark(alloc, DirectiveWord::OpenMpLoop, [])?;
+    let second = marked(alloc, plain)?;
+    let third = round_device(alloc)?;
+    list(alloc, [first, second, third])
+}
+
+fn marked_unit(alloc: Global) -> Result<Unit, Fail> {
+    let mut made = unit(alloc, b"s", [])?;
+    made.marks.push(mark(alloc, DirectiveWord::Routine, [])?)?;
+    made.body = marked_loops(alloc)?;
+    Ok(made)
+}
+
 #[test]
 fn puts_marks(rt: HostRuntime) -> Result<(), Fail> {
-    let alloc = rt.alloc();
-    let plain = marked(alloc, mark(alloc, DirectiveWord::OpenMpLoop, [])?)?;
-    let mut unit = unit(alloc, b"s", [])?;
-    unit.marks = list(alloc, [mark(alloc, DirectiveWord::Routine, [])?])?;
-    unit.body = list(alloc, [threaded(alloc)?, plain, round_device(alloc)?])?;
-    let sink = printed_unit(alloc, unit)?;
+    let sink = printed_unit(rt.alloc(), marked_unit(rt.alloc())?)?;
     let wanted = "subroutine s()
   implicit none
   !$acc routine seq

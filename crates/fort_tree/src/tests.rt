@@ -58,8 +58,9 @@ fn keeps_lists(rt: HostRuntime) -> Result<(), Fail> {
     assert_eq!(rt; list.pop(), Some(2));
     let mut list = Seq::from_vec(list.into_vec());
     assert_eq!(rt; list.items(), [7].as_slice());
-    let mut value = Boxed::new(alloc, 3)?;
-    assert_eq!(rt; value.into_inner(), 4);
+    let value = Boxed::new(alloc, 3)?;
+    assert_eq!(rt; *value.get(), 3);
+    assert_eq!(rt; value.into_inner(), 3);
     Ok(())
 }
 
