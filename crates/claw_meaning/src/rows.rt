@@ -1,12 +1,13 @@
 //! Small programs whose runs are computed from the definitions.
 
-ghost use Rattle.claw_meaning.specs.AddRuns.{AddRow};
+ghost use Rattle.claw_meaning.specs.AddRuns.{AddRow, AddPremises};
 ghost use Rattle.claw_meaning.specs.SmallRuns.{LostUpdate, SmallRuns};
 
 /// A unit of two column scalars, `b = b + a*2`: its columns' runs and the runs of its program for all columns give the same
 /// values, in one loop and in marked loops in both orders, and trap on the same input.
 pub fn scalars_in_columns()
-    ensures { AddRow }
+    ensures runs { AddRow }
+    ensures premises { AddPremises }
 {}
 
 /// A marked loop whose iterations add to one scalar: every order of iterations adds twice, and a schedule of single accesses
