@@ -33,5 +33,6 @@ pub mod Sides
 pub mod Marked_columns
 pub mod Bounds
 pub mod Sequences
+pub mod Nexts
 pub mod Sampled
 pub mod Sampled_columns

@@ -15,4 +15,5 @@ pub mod Private
 pub mod Plans
 pub mod Columns
 pub mod Frames
+pub mod Next
 pub mod Samples

@@ -1,14 +1,17 @@
 //! Steps in one order or another, plans, and interleavings.
 
 ghost use Rattle.std.specs.Prelude.{ℕ, List, Bool};
-ghost use Rattle.courses.specs.Element.{Element, Store};
-ghost use Rattle.courses.specs.Interaction.{Interaction, Orders};
+ghost use Rattle.std.specs.Prelude.{◌≡◌};
+ghost use Rattle.courses.specs.Element.{Value, Element, Store};
+ghost use Rattle.courses.specs.Interaction.{Interaction, Orders, answer_of, log_of};
+ghost use Rattle.courses.specs.Logs.{touches};
 ghost use Rattle.courses.specs.Steps.{Steps, SameSteps, MayReorder, SameRun};
 ghost use Rattle.courses.specs.Handlers.{Forgets, IsSettled};
 ghost use Rattle.courses.specs.Private.{MayReorderBut, SameRunBut};
 ghost use Rattle.courses.specs.Interleaving.{AllClear, WovenWell};
 ghost use Rattle.courses.specs.Course.{Sort, Answer};
-ghost use Rattle.courses.specs.Weaving.{IsFair};
+ghost use Rattle.courses.specs.Weaving.{IsFair, rising};
+ghost use Rattle.courses.specs.Next.{next_access, replied, first_touch};
 ghost use Rattle.courses.specs.Plans.{Plan, orders_of};
 
 /// The law of orders: where no step traps in one order, and steps whose order differs in another share no element that
@@ -33,4 +36,10 @@ pub fn weaving()
 /// Every plan gives each marked loop each of its iterations once.
 pub fn fair_plans()
     ensures { (plan : Plan) → IsFair (orders_of plan) }
+{}
+
+/// The next access of an iteration is determined by the replies to its earlier ones: it is the first touch of what is left
+/// after these, from every store.
+pub fn next_accesses()
+    ensures { (k : Sort) (r : Interaction (Answer k)) (vs : List Value) (s : Store) (j : ℕ) → next_access r vs ≡ first_touch (touches (log_of (replied r vs) rising s j)) (answer_of (replied r vs) rising s j) }
 {}

@@ -6,7 +6,7 @@ use crate::columns::{
 };
 use crate::elements::{element_equality, single_writes};
 use crate::frames::{array_places, frames};
-use crate::orders::{fair_plans, law_of_orders, private_orders, weaving};
+use crate::orders::{fair_plans, law_of_orders, next_accesses, private_orders, weaving};
 use crate::readings::{
     calls_by_copy, course_line, course_monad, courses_in_sequence, loop_runs_apart, schedules,
     woven_lines,
@@ -28,6 +28,7 @@ fn laws_return(rt: HostRuntime) {
     private_orders();
     weaving();
     fair_plans();
+    next_accesses();
     course_monad();
     course_line();
     courses_in_sequence();
