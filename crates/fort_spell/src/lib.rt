@@ -12,8 +12,3 @@ mod text;
 mod units;
 
 pub use text::spell;
-
-#[cfg(test)]
-mod tests;
-#[cfg(test)]
-mod trees;
