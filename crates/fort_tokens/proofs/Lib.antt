@@ -1,1 +1,5 @@
-
+mod TextLemmas
+mod Runs
+mod FormCases
+mod Fronts
+mod Unique

@@ -2,7 +2,7 @@
 ghost use Rattle.std.specs.Prelude.{◌≡◌, ◌↔◌, [], ◌∷◌, ◌++◌, map, OnOk, IfOk, None, Some, IsTrue};
 ghost use Rattle.fort_tree.specs.Token.{is_token};
 ghost use Rattle.fort_tokens.specs.Texts.{front};
-ghost use Rattle.fort_tokens.specs.Reads.{Reads, word_of};
+ghost use Rattle.fort_tokens.specs.Reads.{Reads, word_of, lowered};
 ghost use Rattle.fort_tokens.specs.Machine.{goes_on as goes_on_as, fresh, grown, spoiled, emitted, split, settled, started, fed, closed, finished};
 
 use crate::shape::{goes_on, is_empty};
