@@ -1,14 +1,15 @@
 -- The automaton accepts the forms.
-use Rattle.std.proofs.Common.{◌≡◌, ℕ, Bool, true, false, cond, ◌&&◌, ◌||◌, List, [], ◌∷◌, ◌++◌, refl, sym, ap, ◌∙◌, append_assoc, inl, inr}
+use Rattle.std.proofs.Common.{◌≡◌, ℕ, Bool, true, false, cond, ◌&&◌, ◌||◌, List, [], ◌∷◌, ◌++◌, refl, sym, ap, arith, ◌∙◌, append_assoc, inl, inr}
 use Rattle.std.specs.Prelude.{◌==◌, nat_eq}
 use Rattle.std.specs.List.{list_all, list_any}
 use Rattle.std.specs.Str.{bytes_eq}
 use Rattle.std.specs.Char.{is_ascii_lowercase, is_ascii_digit}
 use Rattle.std.proofs.lemmas.Bool.{true≢false, and_parts, or_cases}
+use Rattle.std.proofs.lemmas.Bool.Decides.{nat_tests}
 use Rattle.std.proofs.lemmas.List.{append-nil}
 use Rattle.fort_tokens.specs.Texts.{is_name_byte, is_kind, is_begun, is_fixed, begins_with, fixed_words}
-use Rattle.fort_tokens.specs.Automaton.{State, start, name, digits, under, suffixed, fixed, dead, next, run, accepts, has_form}
-use Rattle.fort_tokens.specs.Forms.{is_suffix, is_number_tail, is_form}
+use Rattle.fort_tokens.specs.Automaton.{State, start, name, digits, under, suffixed, fixed, dead, next, run, accepts, has_form, numeric, has_number_form}
+use Rattle.fort_tokens.specs.Forms.{is_suffix, is_number_tail, is_number_form, is_form}
 use Rattle.fort_tokens.proofs.Runs.{run-dead}
 
 none-dead : (t : List ℕ) → accepts (run dead t) ≡ false
@@ -92,3 +93,73 @@ form-at false false b bs = fixed-at (b ∷ []) bs (is_begun (b ∷ [])) refl (fi
 pub forms : (t : List ℕ) → has_form t ≡ is_form t
 forms [] = refl
 forms (b ∷ bs) = form-at (is_ascii_lowercase b) (is_ascii_digit b) b bs
+
+-- the text is no number, and is none with more behind it
+abbrev is_aside : State → Bool
+is_aside name = true
+is_aside (fixed t) = true
+is_aside dead = true
+is_aside _ = false
+
+aside-cond : (x : Bool) (s : State) → is_aside s ≡ true → is_aside (cond x s dead) ≡ true
+aside-cond true s h = h
+aside-cond false s h = refl
+
+aside-next : (s : State) (b : ℕ) → is_aside s ≡ true → is_aside (next s b) ≡ true
+aside-next name b h = aside-cond (is_name_byte b) name refl
+aside-next (fixed t) b h = aside-cond (is_begun (t ++ b ∷ [])) (fixed (t ++ b ∷ [])) refl
+aside-next dead b h = refl
+aside-next start b h = absurd (true≢false (sym h))
+aside-next digits b h = absurd (true≢false (sym h))
+aside-next under b h = absurd (true≢false (sym h))
+aside-next suffixed b h = absurd (true≢false (sym h))
+
+aside-now : (s : State) → is_aside s ≡ true → numeric s ≡ false
+aside-now name h = refl
+aside-now (fixed t) h = refl
+aside-now dead h = refl
+aside-now start h = refl
+aside-now digits h = absurd (true≢false (sym h))
+aside-now under h = refl
+aside-now suffixed h = absurd (true≢false (sym h))
+
+aside : (s : State) (bs : List ℕ) → is_aside s ≡ true → numeric (run s bs) ≡ false
+aside s [] h = aside-now s h
+aside s (b ∷ bs) h = aside (next s b) bs (aside-next s b h)
+
+kind-number : (x : Bool) → numeric (cond x suffixed dead) ≡ x
+kind-number true = refl
+kind-number false = refl
+
+kind-past : (x : Bool) (b : ℕ) (bs : List ℕ) → numeric (run (cond x suffixed dead) (b ∷ bs)) ≡ false
+kind-past true b bs = aside dead bs refl
+kind-past false b bs = aside dead bs refl
+
+number-suffix : (bs : List ℕ) → numeric (run under bs) ≡ is_suffix bs
+number-suffix [] = refl
+number-suffix (k ∷ []) = kind-number (is_kind k)
+number-suffix (k ∷ b ∷ bs) = kind-past (is_kind k) b bs
+
+number-tail-at : (x y : Bool) (bs : List ℕ) → numeric (run digits bs) ≡ is_number_tail bs →
+    numeric (run (cond x digits (cond y under dead)) bs) ≡ cond x (is_number_tail bs) (cond y (is_suffix bs) false)
+number-tail-at true y bs h = h
+number-tail-at false true bs h = number-suffix bs
+number-tail-at false false bs h = aside dead bs refl
+
+number-tail : (bs : List ℕ) → numeric (run digits bs) ≡ is_number_tail bs
+number-tail [] = refl
+number-tail (b ∷ bs) = number-tail-at (is_ascii_digit b) (b == 95) bs (number-tail bs)
+
+pub letter-no_digit : (b : ℕ) → is_ascii_lowercase b ≡ true → is_ascii_digit b ≡ false
+letter-no_digit b h = grind (arith, nat_tests)
+
+number-form-at : (x y : Bool) (b : ℕ) (bs : List ℕ) → (x ≡ true → y ≡ false) →
+    numeric (run (cond x name (cond y digits (cond (is_begun (b ∷ [])) (fixed (b ∷ [])) dead))) bs) ≡ cond y (is_number_tail bs) false
+number-form-at true true b bs h = absurd (true≢false (h refl))
+number-form-at true false b bs h = aside name bs refl
+number-form-at false true b bs h = number-tail bs
+number-form-at false false b bs h = aside (cond (is_begun (b ∷ [])) (fixed (b ∷ [])) dead) bs (aside-cond (is_begun (b ∷ [])) (fixed (b ∷ [])) refl)
+
+pub number-forms : (t : List ℕ) → has_number_form t ≡ is_number_form t
+number-forms [] = refl
+number-forms (b ∷ bs) = number-form-at (is_ascii_lowercase b) (is_ascii_digit b) b bs (letter-no_digit b)

@@ -1,5 +1,10 @@
 mod TextLemmas
 mod Runs
 mod FormCases
+mod Ended
+mod Pending
+mod Growing
 mod Fronts
+mod Settling
+pub mod Feeding
 mod Unique
