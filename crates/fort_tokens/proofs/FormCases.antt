@@ -46,7 +46,7 @@ numbers : (bs : List ℕ) → accepts (run digits bs) ≡ is_number_tail bs
 numbers [] = refl
 numbers (b ∷ bs) = number-at (is_ascii_digit b) (b == 95) bs (numbers bs)
 
-both : (x y : Bool) → x ≡ true → y ≡ true → (x && y) ≡ true
+pub both : (x y : Bool) → x ≡ true → y ≡ true → (x && y) ≡ true
 both true y h k = k
 both false y h k = absurd (true≢false (sym h))
 
@@ -57,11 +57,11 @@ same-begins (w ∷ ws) (b ∷ t) q h =
     let p = and_parts (nat_eq b w) (bytes_eq (t ++ q) ws) h in
     both (nat_eq b w) (begins_with ws t) p.0 (same-begins ws t q p.1)
 
-or-left : (x y : Bool) → x ≡ true → (x || y) ≡ true
+pub or-left : (x y : Bool) → x ≡ true → (x || y) ≡ true
 or-left true y h = refl
 or-left false y h = absurd (true≢false (sym h))
 
-or-right : (x y : Bool) → y ≡ true → (x || y) ≡ true
+pub or-right : (x y : Bool) → y ≡ true → (x || y) ≡ true
 or-right true y h = refl
 or-right false y h = h
 

@@ -8,3 +8,6 @@ mod Fronts
 mod Settling
 pub mod Feeding
 mod Unique
+mod Standings
+mod Made
+pub mod Holding

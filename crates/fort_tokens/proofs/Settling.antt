@@ -85,7 +85,7 @@ settle-fixed cs ts last b c w false back r k e =
     (λ u v q. no-form c w z u v r e (kills (run start (bytes (c ∷ w))) b z (ap (λ s. next s b) r ∙ ap (λ x. cond x (fixed (bytes (c ∷ w) ++ b ∷ [])) dead) k) h) q))))
 
 -- a byte that is no digit ends the number
-value-stop : (x : ℕ) (t : List ℕ) (v : ℕ) → is_ascii_digit x ≡ false → value_from v (t ++ x ∷ []) ≡ value_from v t
+pub value-stop : (x : ℕ) (t : List ℕ) (v : ℕ) → is_ascii_digit x ≡ false → value_from v (t ++ x ∷ []) ≡ value_from v t
 value-stop x [] v h = rw h refl
 value-stop x (b ∷ t) v h = ap (λ y. cond (is_ascii_digit b) y v) (value-stop x t (10 * v + (b - 48)) h)
 

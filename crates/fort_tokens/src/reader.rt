@@ -119,12 +119,14 @@ impl Reader {
         requires goes_on { goes_on_as self.old.shape self.old.text c.byte ≡ Some shape }
         ensures { OnOk result (self.new ≡ grown self.old shape c) }
     {
-        let first = is_empty(self.shape);
+        let first = if is_empty(self.shape) {
+            c.at
+        } else {
+            self.at
+        };
         self.text.push(c.byte)?;
-        if first {
-            self.at = c.at;
-        }
         self.shape = shape;
+        self.at = first;
         self.last = c.at;
         Ok(())
     }
@@ -151,10 +153,9 @@ impl Reader {
         requires { IsTrue (is_token (front self.old.text)) }
         ensures { OnOk result (self.new ≡ split self.old) }
     {
-        let mut text = std::mem::replace(&mut self.text, Seq::new(alloc));
+        let text = std::mem::replace(&mut self.text, Seq::new(alloc));
         self.shape = Shape::Empty;
-        let _ = text.pop();
-        self.tokens.push(Token::new(text, self.at))?;
+        self.tokens.push(Token::new(without_last(text), self.at))?;
         self.text.push(b'.')?;
         self.shape = Shape::Fixed;
         self.at = self.last;
@@ -235,6 +236,14 @@ impl Reader {
             self.spoil(self.at);
         }
     }
+}
+
+/// The text without its last byte.
+fn without_last(mut text: Seq<u8>) -> Seq<u8>
+    ensures { result ≡ front text }
+{
+    let _ = text.pop();
+    text
 }
 
 /// The character with an upper-case letter put into lower case.
