@@ -1,5 +1,5 @@
 -- A text that what follows can't make longer, by the automaton.
-use Rattle.std.proofs.Common.{◌≡◌, ◌≢◌, ℕ, Bool, true, false, cond, ◌&&◌, not, List, [], ◌∷◌, ◌++◌, Some, length, sym, ap, ◌∙◌}
+use Rattle.std.proofs.Common.{◌≡◌, ◌≢◌, true, false, cond, ◌&&◌, not, List, [], ◌∷◌, ◌++◌, Some, length, sym, ap, ◌∙◌}
 use Rattle.std.specs.Prelude.{nat_le}
 use Rattle.std.proofs.lemmas.List.{length-map}
 use Rattle.fort_tokens.specs.declared.character.Char.{Char}

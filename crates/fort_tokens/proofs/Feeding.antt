@@ -1,6 +1,6 @@
 -- One character more, and the end of the line.
-use Rattle.std.proofs.Common.{◌≡◌, ◌≢◌, ℕ, ◌-◌, ◌+◌, Bool, true, false, cond, List, [], ◌∷◌, ◌++◌, Option, None, Some, length, map, refl, sym, ap, ◌∙◌, subst, arith, append_assoc}
-use Rattle.std.specs.Prelude.{nat_eq, nat_le, ◌==◌}
+use Rattle.std.proofs.Common.{◌≡◌, ℕ, Bool, true, false, cond, List, [], ◌∷◌, ◌++◌, Option, None, Some, map, refl, sym, ap, ◌∙◌, subst, append_assoc}
+use Rattle.std.specs.Prelude.{◌==◌}
 use Rattle.std.proofs.lemmas.Bool.{eqb-true, true≢false, eq-eqb}
 use Rattle.std.proofs.lemmas.List.{map-append, append-nil}
 use Rattle.fort_tree.specs.declared.place.Place.{Place}
@@ -9,11 +9,10 @@ use Rattle.fort_tokens.specs.Reads.{Word}
 use Rattle.fort_tokens.specs.Reading.{Reading}
 use Rattle.fort_tokens.specs.declared.shape.Shape.{Shape}
 use Rattle.fort_tokens.specs.declared.shape.Shape.TheVariants as shape
-use Rattle.fort_tokens.specs.Texts.{is_fixed, is_begun}
-use Rattle.fort_tokens.specs.Automaton.{State, start, dead, next, run, accepts, has_form, fixed}
-use Rattle.fort_tokens.specs.Reads.{bytes, lowered, Reads, Cut, end, blank, token, broken}
-use Rattle.fort_tokens.specs.Machine.{goes_on, grown, spoiled, settled, settled_at, is_empty, started, started_as, taken, taken_as, fed, fresh, first_place, closed, finished, fed_all}
-use Rattle.fort_tokens.proofs.Runs.{run-dead, Kills}
+use Rattle.fort_tokens.specs.Automaton.{start, dead, next, run, accepts, has_form, fixed}
+use Rattle.fort_tokens.specs.Reads.{bytes, lowered, Reads, Cut, end, blank}
+use Rattle.fort_tokens.specs.Machine.{goes_on, grown, spoiled, settled_at, is_empty, started, started_as, taken, taken_as, fed, fresh, first_place, closed, finished, fed_all}
+use Rattle.fort_tokens.proofs.Runs.{run-dead}
 use Rattle.fort_tokens.proofs.Ended.{begins-none}
 use Rattle.fort_tokens.proofs.Pending.{Stands, empty, in_name, in_digits, in_suffixed, in_under, in_point, in_fixed, Fed, Again, Free, going, stopped, Any, Heads}
 use Rattle.fort_tokens.proofs.Growing.{Goes, Ends, ends_empty, ends_name, ends_digits, ends_suffixed, ends_under, ends_point, ends_fixed, text_place, goes}

@@ -1,5 +1,5 @@
 -- The front of a fixed word that is none: no front of it is a token.
-use Rattle.std.proofs.Common.{◌≡◌, ◌≢◌, ℕ, Bool, true, false, cond, List, [], ◌∷◌, ◌++◌, length, map, refl, sym, ap, ◌∙◌, subst, arith, suc}
+use Rattle.std.proofs.Common.{◌≡◌, ◌≢◌, ℕ, Bool, true, false, cond, List, [], ◌∷◌, ◌++◌, length, refl, sym, ap, ◌∙◌, subst, arith, suc}
 use Rattle.std.proofs.lemmas.Bool.{true≢false, and_parts, or_cases, eqb-true}
 use Rattle.std.proofs.Common.{inl, inr, ◌||◌, ◌&&◌, not, append_assoc}
 use Rattle.std.proofs.lemmas.List.{append-nil}
@@ -13,7 +13,7 @@ use Rattle.std.specs.Char.{is_ascii_digit}
 use Rattle.std.specs.Prelude.{nat_le, nat_eq, ◌==◌}
 use Rattle.fort_tokens.specs.Automaton.{State, start, name, digits, under, suffixed, fixed, dead, next, run, accepts, has_form}
 use Rattle.fort_tokens.specs.Reads.{bytes}
-use Rattle.fort_tokens.proofs.Runs.{Kills, longer, run-dead, run-append}
+use Rattle.fort_tokens.proofs.Runs.{Kills, longer, run-append}
 
 -- u is a front of w, or goes past it
 pub data Compared (w z u v : List Char) : Type 0 where

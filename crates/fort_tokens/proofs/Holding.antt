@@ -1,13 +1,13 @@
 -- What a reader does at an ampersand, and at a second blank.
-use Rattle.std.proofs.Common.{◌≡◌, ◌≢◌, ◌⊎◌, ℕ, Bool, true, false, cond, ◌&&◌, List, [], ◌∷◌, ◌++◌, Option, None, Some, map, refl, sym, ap, ◌∙◌, subst, arith, append_assoc, inl, inr}
+use Rattle.std.proofs.Common.{◌≡◌, ◌⊎◌, ℕ, Bool, true, false, cond, List, None, Some, refl, sym, ap, ◌∙◌, subst, inl, inr}
 use Rattle.std.specs.Prelude.{◌==◌, is_some}
-use Rattle.std.proofs.lemmas.Bool.{true≢false, eqb-true, and_parts}
+use Rattle.std.proofs.lemmas.Bool.{true≢false}
 use Rattle.fort_tree.specs.declared.place.Place.{Place}
 use Rattle.fort_tokens.specs.declared.character.Char.{Char}
 use Rattle.fort_tokens.specs.Reading.{Reading}
 use Rattle.fort_tokens.specs.declared.shape.Shape.{Shape}
 use Rattle.fort_tokens.specs.declared.shape.Shape.TheVariants as shape
-use Rattle.fort_tokens.specs.Machine.{goes_on, is_empty, settled, settled_at, started, started_as, spoiled, taken, taken_as, fed}
+use Rattle.fort_tokens.specs.Machine.{goes_on, is_empty, settled, settled_at, started, started_as, spoiled, taken_as, fed}
 use Rattle.fort_tokens.specs.Reads.{lowered}
 use Rattle.std.specs.Char.{to_ascii_lowercase}
 use Rattle.fort_tokens.proofs.Fronts.{fixed-amp, fixed-blank}

@@ -1,5 +1,5 @@
 -- A text that ends within bounds is a token.
-use Rattle.std.proofs.Common.{◌≡◌, ℕ, ◌+◌, ◌-◌, ◌*◌, ◌≤◌, suc, Bool, true, false, cond, ◌&&◌, ◌||◌, IsTrue, List, [], ◌∷◌, ◌++◌, length, map, take, drop, refl, sym, ap, ◌∙◌, subst, arith}
+use Rattle.std.proofs.Common.{◌≡◌, ℕ, ◌+◌, ◌-◌, ◌*◌, ◌≤◌, suc, Bool, true, false, cond, ◌&&◌, ◌||◌, IsTrue, List, [], ◌∷◌, ◌++◌, length, take, drop, refl, sym, ap, ◌∙◌, arith}
 use Rattle.std.specs.Prelude.{nat_eq, nat_le, nat_lt, ◌==◌}
 use Rattle.std.specs.List.{list_all, prefix_len}
 use Rattle.std.specs.Char.{is_ascii_lowercase, is_ascii_alphabetic, is_ascii_digit, to_ascii_lowercase, digit_value}
@@ -10,7 +10,7 @@ use Rattle.std.specs.Str.Parse.{digits_value, digits_value_after}
 use Rattle.std.proofs.lemmas.Bool.{true≢false, and_parts, eqb-true}
 use Rattle.std.proofs.lemmas.Bool.Decides.{nat_tests}
 use Rattle.fort_tree.specs.Name.{is_word_byte, is_name, lowercase}
-use Rattle.fort_tree.specs.Token.{is_token, is_number, is_number_from, is_one_of, kind_suffixes, dotted_words, operators, sentinels}
+use Rattle.fort_tree.specs.Token.{is_token, is_number, is_one_of, kind_suffixes}
 use Rattle.fort_tokens.specs.Texts.{is_name_byte, is_kind, is_small, value_from, front}
 use Rattle.fort_tokens.specs.Forms.{is_suffix, is_number_tail, is_number_form}
 use Rattle.fort_tokens.specs.Standing.{is_name_form}

@@ -1,5 +1,5 @@
 -- What the state of the reader says of the characters that it was fed.
-use Rattle.std.proofs.Common.{◌≡◌, ◌≢◌, ℕ, Bool, true, false, List, [], ◌∷◌, ◌++◌, Option, None, Some, map}
+use Rattle.std.proofs.Common.{◌≡◌, ℕ, true, false, List, [], ◌∷◌, ◌++◌, Option, None, Some}
 use Rattle.fort_tree.specs.declared.place.Place.{Place}
 use Rattle.fort_tokens.specs.declared.character.Char.{Char}
 use Rattle.fort_tokens.specs.Reads.{Word}
@@ -7,7 +7,7 @@ use Rattle.fort_tokens.specs.declared.shape.Shape.{Shape}
 use Rattle.fort_tokens.specs.declared.shape.Shape.TheVariants as shape
 use Rattle.fort_tokens.specs.Reading.{Reading}
 use Rattle.fort_tokens.specs.Texts.{is_fixed}
-use Rattle.fort_tokens.specs.Automaton.{State, start, name, digits, suffixed, fixed, run, numeric}
+use Rattle.fort_tokens.specs.Automaton.{start, name, digits, suffixed, fixed, run, numeric}
 use Rattle.fort_tokens.specs.Reads.{bytes, Cut}
 
 -- the shape, the first place and the last one of the characters that are no token yet

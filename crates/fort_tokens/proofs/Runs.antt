@@ -1,5 +1,5 @@
 -- The automaton: what no longer front of a text can be.
-use Rattle.std.proofs.Common.{◌≡◌, ◌≢◌, ℕ, Bool, true, false, cond, List, [], ◌∷◌, ◌++◌, length, map, refl, sym, ap, ◌∙◌, subst, arith}
+use Rattle.std.proofs.Common.{◌≡◌, ◌≢◌, ℕ, false, List, [], ◌∷◌, ◌++◌, refl, ap, ◌∙◌, subst}
 use Rattle.std.proofs.lemmas.List.{map-append}
 use Rattle.fort_tokens.specs.declared.character.Char.{Char}
 use Rattle.fort_tokens.specs.Automaton.{State, start, dead, next, run, accepts, has_form}

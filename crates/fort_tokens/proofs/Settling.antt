@@ -1,9 +1,9 @@
 -- A character that the text does not go on with: the text becomes a token or is bad.
-use Rattle.std.proofs.Common.{◌≡◌, ◌≢◌, ℕ, ◌-◌, ◌+◌, ◌*◌, Bool, true, false, cond, ◌&&◌, ◌||◌, not, List, [], ◌∷◌, ◌++◌, Option, None, Some, length, map, take, refl, sym, ap, ◌∙◌, subst, arith, append_assoc, length-append}
-use Rattle.std.specs.Prelude.{nat_eq, nat_le, ◌==◌}
+use Rattle.std.proofs.Common.{◌≡◌, ◌≢◌, ℕ, ◌-◌, ◌+◌, ◌*◌, Bool, true, false, cond, ◌&&◌, ◌||◌, not, List, [], ◌∷◌, ◌++◌, Option, None, Some, length, take, refl, sym, ap, ◌∙◌, subst, arith, append_assoc, length-append}
+use Rattle.std.specs.Prelude.{nat_le, ◌==◌}
 use Rattle.std.specs.Char.{is_ascii_lowercase, is_ascii_digit}
-use Rattle.std.proofs.lemmas.Bool.{eqb-true, true≢false}
-use Rattle.std.proofs.lemmas.List.{map-append, append-nil, length-map}
+use Rattle.std.proofs.lemmas.Bool.{true≢false}
+use Rattle.std.proofs.lemmas.List.{map-append, append-nil}
 use Rattle.std.proofs.Math.Seq.{take-append_seam}
 use Rattle.fort_tree.specs.declared.place.Place.{Place}
 use Rattle.fort_tokens.specs.declared.character.Char.{Char}
@@ -13,12 +13,12 @@ use Rattle.fort_tokens.specs.declared.shape.Shape.{Shape}
 use Rattle.fort_tokens.specs.declared.shape.Shape.TheVariants as shape
 use Rattle.fort_tokens.specs.Texts.{is_name_byte, is_kind, is_begun, is_fixed, is_small, value_from, front}
 use Rattle.fort_tokens.specs.Automaton.{State, start, name, digits, under, suffixed, fixed, dead, next, run, accepts, has_form, numeric}
-use Rattle.fort_tokens.specs.Reads.{bytes, Cut, end, blank, token, broken, none, Longest, is_sound, goes_wrong}
+use Rattle.fort_tokens.specs.Reads.{bytes, Cut, token, broken, Longest, is_sound, goes_wrong}
 use Rattle.fort_tokens.specs.Machine.{emitted, spoiled, split, settled_at}
 use Rattle.fort_tokens.proofs.Runs.{Kills, run-append, run-dead}
 use Rattle.fort_tokens.proofs.Ended.{longest-by, is_longest, begins-none, sound-as}
 use Rattle.fort_tokens.proofs.Pending.{Stands, empty, in_name, in_digits, in_suffixed, in_under, in_point, in_fixed, Fed, Again, going, stopped, Any, Heads}
-use Rattle.fort_tokens.proofs.Growing.{Ends, ends_empty, ends_name, ends_digits, ends_suffixed, ends_under, ends_point, ends_fixed}
+use Rattle.fort_tokens.proofs.Growing.{Ends, ends_name, ends_digits, ends_suffixed, ends_under, ends_fixed}
 use Rattle.fort_tokens.proofs.Fronts.{head-of, tail-of, no-form, fixed-short, fixed-no_blank}
 
 abbrev pub Back : List Char → List Char → List Word → Type 0

@@ -1,23 +1,18 @@
 -- A text that goes on has its new shape, and one that ends within bounds is a token.
-use Rattle.std.proofs.Common.{◌≡◌, ℕ, ◌+◌, ◌-◌, ◌*◌, ◌≤◌, suc, Bool, true, false, cond, ◌&&◌, ◌||◌, IsTrue, List, [], ◌∷◌, ◌++◌, Option, None, Some, length, map, take, drop, refl, sym, ap, ◌∙◌, subst, arith, append_assoc, ◌⊎◌, inl, inr}
-use Rattle.std.specs.Prelude.{nat_eq, nat_le, nat_lt, ◌==◌, ⊤}
-use Rattle.std.specs.List.{list_all, list_any, prefix_len}
-use Rattle.std.specs.Char.{is_ascii_lowercase, is_ascii_alphabetic, is_ascii_digit, to_ascii_lowercase, digit_value}
-use Rattle.std.specs.Str.{bytes_eq}
-use Rattle.std.specs.Str.Parse.{digits_value, digits_value_after}
+use Rattle.std.proofs.Common.{◌≡◌, ℕ, Bool, true, false, cond, List, [], ◌∷◌, ◌++◌, Option, None, Some, refl, sym, ap, ◌∙◌, subst, append_assoc, ◌⊎◌, inl, inr}
+use Rattle.std.specs.Prelude.{◌==◌, ⊤}
+use Rattle.std.specs.List.{list_all}
+use Rattle.std.specs.Char.{is_ascii_lowercase, is_ascii_digit}
 use Rattle.std.proofs.lemmas.Bool.{true≢false, and_parts, eqb-true}
 use Rattle.std.proofs.lemmas.List.{append-nil}
-use Rattle.std.proofs.lemmas.Bool.Decides.{nat_tests}
-use Rattle.fort_tree.specs.Name.{is_word_byte, is_name, lowercase}
-use Rattle.fort_tree.specs.Token.{is_token, is_number, is_number_from, is_one_of, kind_suffixes, dotted_words, operators, sentinels}
 use Rattle.fort_tokens.specs.declared.shape.Shape.{Shape}
 use Rattle.fort_tokens.specs.declared.shape.Shape.TheVariants as shape
-use Rattle.fort_tokens.specs.Texts.{is_name_byte, is_kind, is_begun, is_small, value_from, front}
-use Rattle.fort_tokens.specs.Forms.{is_suffix, is_number_tail, is_number_form}
+use Rattle.fort_tokens.specs.Texts.{is_name_byte, is_kind, is_begun, front}
+use Rattle.fort_tokens.specs.Forms.{is_number_tail, is_number_form}
 use Rattle.fort_tokens.specs.Machine.{first_shape, goes_on}
 use Rattle.fort_tokens.specs.Standing.{is_name_form, is_digits, HasShape}
-use Rattle.fort_tokens.proofs.FormCases.{both, or-left, or-right}
-use Rattle.fort_tokens.proofs.Settling.{front-is, value-stop}
+use Rattle.fort_tokens.proofs.FormCases.{both}
+use Rattle.fort_tokens.proofs.Settling.{front-is}
 
 -- the new shape, if there is one
 abbrev HasShapeOf : Option Shape → List ℕ → Type 0

@@ -1,5 +1,5 @@
 -- Characters are read in one way.
-use Rattle.std.proofs.Common.{◌≡◌, ◌≢◌, ℕ, Bool, true, false, List, [], ◌∷◌, ◌++◌, Option, None, Some, map, length, refl, sym, ap, ◌∙◌, subst, arith, append_assoc}
+use Rattle.std.proofs.Common.{◌≡◌, Bool, true, false, List, [], ◌∷◌, ◌++◌, Option, Some, refl, sym, ap, ◌∙◌, append_assoc}
 use Rattle.std.proofs.lemmas.Bool.{true≢false}
 use Rattle.std.proofs.lemmas.List.{append-nil}
 use Rattle.fort_tree.specs.declared.place.Place.{Place}
@@ -7,7 +7,7 @@ use Rattle.fort_tokens.specs.declared.character.Char.{Char}
 use Rattle.fort_tokens.specs.Reads.{Word}
 use Rattle.fort_tokens.specs.Forms.{is_form}
 use Rattle.fort_tokens.specs.Reads.{bytes, Cut, end, blank, token, broken, none, Longest, is_sound, word_at}
-use Rattle.fort_tokens.proofs.Fronts.{Compared, within, past, compared, head-of, tail-of, cons≢nil}
+use Rattle.fort_tokens.proofs.Fronts.{within, past, compared, head-of, tail-of, cons≢nil}
 
 cancel : (x y z : List Char) → x ++ y ≡ x ++ z → y ≡ z
 cancel [] y z e = e

@@ -6,7 +6,7 @@ use Rattle.fort_tokens.specs.declared.character.Char.{Char}
 use Rattle.fort_tokens.specs.declared.shape.Shape.{Shape}
 use Rattle.fort_tokens.specs.declared.shape.Shape.TheVariants as shape
 use Rattle.fort_tokens.specs.Texts.{is_name_byte, is_kind, is_begun, is_fixed, is_small, front}
-use Rattle.fort_tokens.specs.Reads.{Word, lowered}
+use Rattle.fort_tokens.specs.Reads.{lowered}
 use Rattle.fort_tokens.specs.Reading.{Reading}
 
 -- the shape of a text of one byte, if a token can begin so

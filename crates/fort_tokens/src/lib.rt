@@ -14,3 +14,6 @@ pub use laws::{
 };
 pub use reader::{Reader, tokens};
 pub use shape::Shape;
+
+#[cfg(test)]
+mod tests;

@@ -119,11 +119,7 @@ impl Reader {
         requires goes_on { goes_on_as self.old.shape self.old.text c.byte ≡ Some shape }
         ensures { OnOk result (self.new ≡ grown self.old shape c) }
     {
-        let first = if is_empty(self.shape) {
-            c.at
-        } else {
-            self.at
-        };
+        let first = if is_empty(self.shape) { c.at } else { self.at };
         self.text.push(c.byte)?;
         self.shape = shape;
         self.at = first;

@@ -1,4 +1,4 @@
-use Rattle.std.proofs.Common.{◌≡◌, ◌+◌, ◌++◌, ◌∷◌, [], take, get_or, subst, sym}
+use Rattle.std.proofs.Common.{◌≡◌, ◌++◌, ◌∷◌, [], take, get_or, subst, sym}
 use Rattle.std.proofs.lemmas.List.{take_more, take_all}
 use Rattle.fort_tokens.specs.declared.character.Char.{Char}
 use Rattle.fort_tokens.specs.Reads.{Reads}

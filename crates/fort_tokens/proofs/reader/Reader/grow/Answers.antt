@@ -1,4 +1,4 @@
-use Rattle.std.proofs.Common.{◌≡◌, ◌++◌, ◌∷◌, [], Some, sym, ap, ◌∙◌, subst}
+use Rattle.std.proofs.Common.{sym, ap, ◌∙◌, subst}
 use Rattle.fort_tokens.specs.Standing.{HasShape}
 use Rattle.fort_tokens.specs.Machine.{goes_on}
 use Rattle.fort_tokens.proofs.Standings.{has_shape-more}

@@ -1,5 +1,4 @@
 use Rattle.std.proofs.Common.{◌≡◌, IsTrue, true, refl, sym, ap, ◌∙◌, subst, arith}
-use Rattle.std.proofs.lemmas.Bool.Decides.{nat_tests}
 use Rattle.fort_tree.specs.Token.{is_token}
 use Rattle.fort_tokens.specs.Texts.{front, is_small}
 use Rattle.fort_tokens.specs.Standing.{HasShape}
