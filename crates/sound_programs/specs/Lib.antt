@@ -1,0 +1,17 @@
+pub mod Places
+pub mod Placed
+pub mod Placing
+pub mod Links
+pub mod Scopes
+pub mod Walks
+pub mod NameFaults
+pub mod DeclarationFaults
+pub mod LoopFaults
+pub mod CallFaults
+pub mod Kinding
+pub mod Ranking
+pub mod KindFaults
+pub mod RankFaults
+pub mod ArgumentFaults
+pub mod Forms
+pub mod Nesting
