@@ -15,3 +15,6 @@ pub mod RankFaults
 pub mod ArgumentFaults
 pub mod Forms
 pub mod Nesting
+pub mod Faults
+pub mod Sound
+pub mod Writing
