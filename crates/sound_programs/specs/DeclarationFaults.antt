@@ -12,7 +12,7 @@ use Rattle.claw_meaning.specs.Syntax.{Text}
 use Rattle.sound_programs.specs.Places.{later_of, is_earlier, where_place}
 use Rattle.sound_programs.specs.Links.{leads}
 use Rattle.sound_programs.specs.Placed.{Decl, Unit, Module, Program, bare_program}
-use Rattle.sound_programs.specs.Scopes.{Scope, Of_unit, Of_module, scopes, uses_of, decls_of, is_dummy, declared, named_unit, named_module, is_given, is_brought, names_of_modules, place_of_use, only_names, module_named, origin, same_origin, is_prefix}
+use Rattle.sound_programs.specs.Scopes.{Scope, Of_unit, Of_module, scopes, uses_of, decls_of, is_dummy, declared, named_unit, named_module, is_given, is_brought, entities_of_modules, place_of_use, only_names, module_named, origin, same_origin, is_prefix}
 use Rattle.sound_programs.specs.NameFaults.{places_where}
 
 -- Declared twice
@@ -42,13 +42,17 @@ abbrev pub declared_and_used : Program → plain.Program → Scope → List Plac
 declared_and_used p q s =
     flat_map (λ n. flat_map (λ line. where_place (is_brought q line n.name) (later_of n.at (place_of_use line n.name))) (uses_of s)) (declared p s)
 
--- both USE lines bring the name, and from two modules that declare it
-abbrev pub bring_two : plain.Program → Use → Use → Text → Bool
-bring_two q a b x = is_brought q a x && (is_brought q b x && not (same_origin (origin q a.name x) (origin q b.name x)))
+-- the USE gives the name to this entity of a module; to another
+abbrev pub gives_this : plain.Program → Use → Text × Text → Bool
+gives_this q line entity = is_brought q line entity.1 && same_origin (origin q line.name entity.1) (Some entity.0)
+
+abbrev pub gives_other : plain.Program → Use → Text × Text → Bool
+gives_other q line entity = is_brought q line entity.1 && not (same_origin (origin q line.name entity.1) (Some entity.0))
 
 -- two USE lines that give one name to two entities
 abbrev pub uses_clash : Program → plain.Program → Use → Use → List Place
-uses_clash p q a b = flat_map (λ x. where_place (bring_two q a b x) (later_of (place_of_use a x) (place_of_use b x))) (names_of_modules p)
+uses_clash p q a b =
+    flat_map (λ e. where_place (gives_other q a e && gives_this q b e) (later_of (place_of_use a e.1) (place_of_use b e.1))) (entities_of_modules p)
 
 abbrev pub two_uses : Program → plain.Program → List Use → List Place
 two_uses p q [] = []

@@ -18,3 +18,11 @@ pub mod Nesting
 pub mod Faults
 pub mod Sound
 pub mod Writing
+pub mod SmallPrograms
+pub mod Rows
+pub mod NameRows
+pub mod CallRows
+pub mod KindRows
+pub mod RankRows
+pub mod ArgumentRows
+pub mod FileRows

@@ -191,10 +191,12 @@ is_given q m x = is_known (module_gives q m x)
 abbrev pub is_brought : plain.Program → Use → Text → Bool
 is_brought q line x = brings (bare_use line) x && is_given q line.name x
 
--- the names that the modules declare: no module gives another
-abbrev pub names_of_modules : Program → List Text
-names_of_modules p =
-    flat_map (λ m. map (λ d. d.name) m.decls) p.modules ++ map (λ u. u.name) (filter (λ u. is_some u.host) p.units)
+-- the entities that the modules declare, each by its module and its name: no module gives another
+abbrev pub entities_of_module : Program → ℕ × Module → List (Text × Text)
+entities_of_module p m = map (λ n. (m.1.name, n.name)) (declared p (Of_module m.0 m.1))
+
+abbrev pub entities_of_modules : Program → List (Text × Text)
+entities_of_modules p = flat_map (entities_of_module p) (enumerate_from 0 p.modules)
 
 -- where a USE names what it brings: at the name behind ONLY, or else at the module's name
 abbrev pub place_of_only : List Named → Text → Place → Place

@@ -1,2 +1,11 @@
-//! What it is that a program has no fault of names, calls and kinds.
+//! What it is that a program has no fault of names, calls and kinds: the definition on which every later pass stands, in `specs/`.
+//!
+//! The functions here run nothing. Each carries a law or computed rows in its contract.
 #![tactic(auto)]
+
+mod rows;
+
+pub use rows::{
+    faults_of_arguments_by_example, faults_of_calls_by_example, faults_of_kinds_by_example,
+    faults_of_names_by_example, faults_of_ranks_by_example, faulty_files, first_faults,
+};
