@@ -26,3 +26,4 @@ pub mod KindRows
 pub mod RankRows
 pub mod ArgumentRows
 pub mod FileRows
+pub mod SoundRow

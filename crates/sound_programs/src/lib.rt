@@ -6,6 +6,6 @@
 mod rows;
 
 pub use rows::{
-    faults_of_arguments_by_example, faults_of_calls_by_example, faults_of_kinds_by_example,
+    a_sound_program,     faults_of_arguments_by_example, faults_of_calls_by_example, faults_of_kinds_by_example,
     faults_of_names_by_example, faults_of_ranks_by_example, faulty_files, first_faults,
 };

@@ -5,7 +5,13 @@ ghost use Rattle.sound_programs.specs.CallRows.{CallRows};
 ghost use Rattle.sound_programs.specs.KindRows.{KindRows};
 ghost use Rattle.sound_programs.specs.RankRows.{RankRows};
 ghost use Rattle.sound_programs.specs.ArgumentRows.{ArgumentRows};
+ghost use Rattle.sound_programs.specs.SoundRow.{SoundRow};
 ghost use Rattle.sound_programs.specs.FileRows.{FaultyFiles, FirstFaults};
+
+/// A module with a PARAMETER and a function, a unit that uses both and calls another: its forms nest, and it is sound.
+pub fn a_sound_program()
+    ensures { SoundRow }
+{}
 
 /// Undeclared names, names declared twice, USE, calls of no unit, DO variables, INTENT.
 pub fn faults_of_names_by_example()
