@@ -1,3 +1,4 @@
 pub mod RoundTrip
 pub mod OnFiles
 pub mod NestingOfSound
+pub mod BareTrees
