@@ -2,3 +2,5 @@ pub mod RoundTrip
 pub mod OnFiles
 pub mod NestingOfSound
 pub mod BareTrees
+pub mod Chains
+pub mod SoundLaws

@@ -27,3 +27,4 @@ pub mod RankRows
 pub mod ArgumentRows
 pub mod FileRows
 pub mod SoundRow
+pub mod Laws
