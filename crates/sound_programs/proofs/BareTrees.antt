@@ -1,5 +1,5 @@
 -- A placed tree without its places is the plain tree of its value.
-use Rattle.std.proofs.Common.{◌≡◌, ℕ, List, [], ◌∷◌, Option, None, Some, Bool, map, option_map, refl, sym, ap, subst, ◌∙◌}
+use Rattle.std.proofs.Common.{◌≡◌, List, [], ◌∷◌, Option, None, Some, map, option_map, refl, sym, ap, subst, ◌∙◌}
 use Rattle.fort_tree.specs.declared.expr.Expr as tree_expr
 use Rattle.fort_tree.specs.declared.expr.Expr.TheOpen.{Expr-F, Sub-F}
 use Rattle.fort_tree.specs.declared.expr.Expr.TheFolds.{fold-roll-Expr, fold-roll-Sub, map-Expr, map-Sub, ind-Expr, ind-Sub}
@@ -24,8 +24,8 @@ use Rattle.fort_tree.specs.declared.unit.Module as tree_module
 use Rattle.fort_tree.specs.declared.unit.Unit as tree_unit
 use Rattle.claw_meaning.specs.Syntax as bare_tree
 use Rattle.claw_meaning.specs.Plain as plains
-use Rattle.sound_programs.specs.Placed.{Expr, Subscripts, Limit, Dimension, Decl, Directive, Head, Range, Stmt, Stmts, Arms, Cases, Otherwise, Unit, Module, Program, bare, bare_subs, bare_limit, bare_option, bare_directive, bare_head, bare_range, bare_stmt, bare_stmts, bare_arms, bare_cases, bare_otherwise, bare_dimension, bare_decl, bare_unit, bare_module, bare_program, bare_item, bare_use}
-use Rattle.sound_programs.specs.Placing.{Before, expr_step, sub_step, limit, chained, placed_expr, placed_sub, placed_option, placed_head, placed_range, placed_directive, in_a_row, arms_of, cases_of, otherwise, stmt_step, arm_step, case_step, placed_stmt, placed_stmts, placed_bound, placed_decl, placed_unit, placed_module, placed}
+use Rattle.sound_programs.specs.Placed.{Expr, Subscripts, Stmt, Arms, Cases, bare, bare_subs, bare_option, bare_directive, bare_head, bare_range, bare_stmt, bare_stmts, bare_arms, bare_cases, bare_dimension, bare_decl, bare_unit, bare_module, bare_program, bare_item, bare_use}
+use Rattle.sound_programs.specs.Placing.{Before, expr_step, sub_step, chained, placed_expr, placed_sub, placed_option, placed_head, placed_range, placed_directive, arms_of, cases_of, stmt_step, arm_step, case_step, placed_stmt, placed_stmts, placed_bound, placed_decl, placed_unit, placed_module, placed}
 
 -- Expressions
 

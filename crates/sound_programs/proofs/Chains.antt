@@ -1,8 +1,8 @@
 -- A chain of links needs to be no longer than there are links.
-use Rattle.std.proofs.Common.{◌≡◌, ℕ, zero, suc, ◌≤◌, ◌<◌, ◌||◌, ◌&&◌, List, [], ◌∷◌, Bool, true, false, refl, sym, ap, subst, ◌∙◌, arith, length, inl, inr}
+use Rattle.std.proofs.Common.{◌≡◌, ℕ, zero, suc, ◌≤◌, ◌<◌, ◌||◌, ◌&&◌, [], ◌∷◌, Bool, true, false, refl, sym, ap, subst, ◌∙◌, arith, length, inl, inr}
 use Rattle.std.specs.List.{list_any}
 use Rattle.std.specs.Str.{bytes_eq}
-use Rattle.std.specs.Prelude.{◌⊎◌, ◌↔◌}
+use Rattle.std.specs.Prelude.{◌⊎◌}
 use Rattle.std.proofs.lemmas.Bool.{and_parts, and_from, false≢true}
 use Rattle.std.proofs.lemmas.Slice.Eq.{bytes_eq-Decides}
 use Rattle.claw_meaning.specs.Syntax.{Text}
@@ -70,8 +70,8 @@ test_of links (stays {n} {x}) = same n
     same (suc m) = ap (λ b. b || list_any (λ l. bytes_eq l.0 x && leads_within links m l.1 x) links) (equal_names x x refl)
 test_of links (goes {n} {x} {z} {y} member way) =
     or_right (bytes_eq x y) (list_any (λ l. bytes_eq l.0 x && leads_within links n l.1 y) links)
-      (member_any (λ l. bytes_eq l.0 x && leads_within links n l.1 y) links (x, z) member
-        (and_from (bytes_eq x x) (leads_within links n z y) (equal_names x x refl) (test_of links way)))
+    (member_any (λ l. bytes_eq l.0 x && leads_within links n l.1 y) links (x, z) member
+    (and_from (bytes_eq x x) (leads_within links n z y) (equal_names x x refl) (test_of links way)))
 
 -- ---- Ways that don't come back to a name
 

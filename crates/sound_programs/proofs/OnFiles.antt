@@ -1,5 +1,5 @@
 -- What is computed of a placed program holds of the file that it is.
-use Rattle.std.proofs.Common.{◌≡◌, List, [], refl, sym, subst}
+use Rattle.std.proofs.Common.{◌≡◌, List, [], sym, subst}
 use Rattle.std.proofs.lemmas.Bool.{false≢true}
 use Rattle.fort_tree.specs.declared.place.Place.{Place}
 use Rattle.sound_programs.specs.Placed.{Program}

@@ -17,13 +17,13 @@ use Rattle.fort_tree.specs.declared.stmt.Head as tree_head
 use Rattle.fort_tree.specs.declared.stmt.Named.{Named}
 use Rattle.fort_tree.specs.declared.stmt.Range as tree_range
 use Rattle.fort_tree.specs.declared.stmt.Stmt as tree_stmt
-use Rattle.fort_tree.specs.declared.stmt.Stmt.TheOpen.{Stmt-F, Arm-F, Case-F}
+use Rattle.fort_tree.specs.declared.stmt.Stmt.TheOpen.{Stmt-F}
 use Rattle.fort_tree.specs.declared.stmt.Stmt.TheFolds.{fold-Arm, fold-Case, fold-roll-Stmt, fold-roll-Arm, fold-roll-Case}
 use Rattle.fort_tree.specs.declared.stmt.Stmt.TheVariants as stmt
 use Rattle.sound_programs.specs.Nesting.{arm, case}
-use Rattle.sound_programs.specs.Placed.{Expr, Numeral, Boolean, Name, Reference, Signed, Binary, Paren, Subscripts, No_more, One, Section, Limit, Unbounded, Bounded, Dimension, Decl, Directive, Head, Range, Single, Span, Stmt, Assign, Call, If, Select, Do, Block, Piece, Exit, Cycle, Return, Stmts, Done, Then, Arms, No_arm, Arm, Cases, No_case, Case, Otherwise, Nothing_else, Else, Unit, Module, Program}
-use Rattle.sound_programs.specs.Placing.{Before, expr_step, sub_step, limit, chained, placed_expr, placed_sub, placed_subs, placed_option, placed_head, placed_range, placed_directive, in_a_row, arms_of, cases_of, otherwise, stmt_step, arm_step, case_step, placed_stmt, placed_stmts, placed_bound, placed_decl, placed_unit, placed_module, placed}
-use Rattle.sound_programs.specs.Writing.{written, written_subs, written_limit, written_option, written_head, written_range, written_directive, written_mark, written_stmt, written_stmts, written_arms, written_cases, written_otherwise, written_dimension, written_decl, written_unit, written_module, file_of}
+use Rattle.sound_programs.specs.Placed.{Expr, Numeral, Boolean, Name, Reference, Signed, Binary, Paren, Subscripts, No_more, One, Section, Limit, Unbounded, Bounded, Dimension, Decl, Directive, Head, Range, Single, Span, Stmt, Assign, Call, If, Select, Do, Block, Piece, Exit, Cycle, Return, Stmts, Done, Then, Arms, No_arm, Arm, Cases, No_case, Case, Nothing_else, Else, Unit, Module, Program}
+use Rattle.sound_programs.specs.Placing.{Before, expr_step, sub_step, limit, placed_expr, placed_sub, placed_subs, placed_option, placed_head, placed_range, placed_directive, arms_of, cases_of, stmt_step, arm_step, case_step, placed_stmt, placed_stmts, placed_bound, placed_decl, placed_unit, placed_module, placed}
+use Rattle.sound_programs.specs.Writing.{written, written_subs, written_limit, written_option, written_head, written_range, written_directive, written_mark, written_stmt, written_stmts, written_arms, written_cases, written_dimension, written_decl, written_unit, written_module, file_of}
 
 -- Expressions, one level at a time
 

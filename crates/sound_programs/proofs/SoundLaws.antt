@@ -1,8 +1,8 @@
 -- What holds of every sound program.
-use Rattle.std.proofs.Common.{◌≡◌, ℕ, zero, suc, List, [], ◌∷◌, ◌++◌, map, Bool, true, false, ◌&&◌, ◌||◌, not, cond, refl, sym, ap, subst, ◌∙◌, Option, Some, None}
-use Rattle.std.proofs.lemmas.Bool.{and_parts, and_from, eqb-true, eq-eqb, false≢true}
-use Rattle.std.specs.Prelude.{IsTrue, flat_map, nat_eq}
-use Rattle.std.specs.List.{filter, list_any, AllByRecursion, IsDistinct}
+use Rattle.std.proofs.Common.{◌≡◌, List, [], ◌∷◌, ◌++◌, map, Bool, true, false, ◌&&◌, ◌||◌, not, cond, refl, sym, ap, subst, ◌∙◌}
+use Rattle.std.proofs.lemmas.Bool.{and_from, eq-eqb, false≢true}
+use Rattle.std.specs.Prelude.{flat_map, nat_eq}
+use Rattle.std.specs.List.{filter, list_any, IsDistinct}
 use Rattle.std.specs.Str.{bytes_eq}
 use Rattle.fort_tree.specs.declared.choice.Mode.{Mode}
 use Rattle.fort_tree.specs.declared.place.Place.{Place}
@@ -15,14 +15,14 @@ use Rattle.sound_programs.specs.KindFaults.{kind_faults}
 use Rattle.sound_programs.specs.LoopFaults.{loop_faults}
 use Rattle.sound_programs.specs.RankFaults.{rank_faults}
 use Rattle.sound_programs.specs.DeclarationFaults.{clashes, seconds, two_declarations, declared_twice, declared_twice_in, module_faults, intent_faults}
-use Rattle.sound_programs.specs.Faults.{Found, found, faults_of_names, faults_of_calls, faults_of_kinds, IsLeast, FirstFault, of_names, of_calls, of_kinds, is_this}
+use Rattle.sound_programs.specs.Faults.{Found, found, faults_of_names, faults_of_calls, faults_of_kinds, IsLeast, of_names, of_calls, of_kinds, is_this}
 use Rattle.sound_programs.specs.Laws.{Each, HasNoCycle, DeclaresOnce, NamesAreKnown, CallsAreKnown, HasNoFirstFault, entity_of}
-use Rattle.sound_programs.specs.Links.{is_on_cycle, Reaches}
+use Rattle.sound_programs.specs.Links.{is_on_cycle}
 use Rattle.sound_programs.specs.NameFaults.{places_where, undeclared_names, undeclared_in_scope, undeclared_in_step, unit_faults, unit_faults_in_step, is_no_value}
-use Rattle.sound_programs.specs.Placed.{Unit, Program, bare_program}
+use Rattle.sound_programs.specs.Placed.{bare_program}
 use Rattle.sound_programs.specs.Placing.{placed}
 use Rattle.sound_programs.specs.Places.{At, same_place, where_place, the_first, earlier_of, first_of, later_of}
-use Rattle.sound_programs.specs.Scopes.{Scope, Of_unit, scopes, declared}
+use Rattle.sound_programs.specs.Scopes.{Of_unit, scopes, declared}
 use Rattle.sound_programs.specs.Sound.{Sound, Nowhere}
 use Rattle.sound_programs.specs.Walks.{Stands, steps_of, parts_read, bare_name, call_name}
 use Rattle.sound_programs.proofs.Chains.{reached_within}
@@ -32,7 +32,7 @@ use Rattle.sound_programs.proofs.Chains.{reached_within}
 same_place-refl : (a : Place) → same_place a a ≡ true
 same_place-refl a =
     and_from (nat_eq a.file a.file) (nat_eq a.line a.line && nat_eq a.column a.column) (eq-eqb a.file a.file refl)
-      (and_from (nat_eq a.line a.line) (nat_eq a.column a.column) (eq-eqb a.line a.line refl) (eq-eqb a.column a.column refl))
+    (and_from (nat_eq a.line a.line) (nat_eq a.column a.column) (eq-eqb a.line a.line refl) (eq-eqb a.column a.column refl))
 
 at_head : (a : Place) (rest : List Place) → At (a ∷ rest) a
 at_head a rest = ap (λ b. b || list_any (λ other. same_place other a) rest) (same_place-refl a)
@@ -91,9 +91,9 @@ no_cycle mode file sound =
     let p = placed file in
     let none : recursions p ≡ [] = empty_if_nowhere (recursions p) sound.calls_have_no_cycle in
     let found_none : filter (λ r. is_on_cycle (calls p) (link_of r)) (referrals p) ≡ [] =
-        map_empty (λ (r : Referral). r.at) (filter (λ r. is_on_cycle (calls p) (link_of r)) (referrals p)) (first_empty (map (λ r. r.at) (filter (λ r. is_on_cycle (calls p) (link_of r)) (referrals p))) none) in
+    map_empty (λ (r : Referral). r.at) (filter (λ r. is_on_cycle (calls p) (link_of r)) (referrals p)) (first_empty (map (λ r. r.at) (filter (λ r. is_on_cycle (calls p) (link_of r)) (referrals p))) none) in
     each_by (referrals p) (λ r off reached. false≢true (sym off ∙ reached_within (calls p) r.to r.from reached))
-      (none_kept (λ r. is_on_cycle (calls p) (link_of r)) (referrals p) found_none)
+    (none_kept (λ r. is_on_cycle (calls p) (link_of r)) (referrals p) found_none)
 
 -- ---- Names
 
@@ -111,10 +111,10 @@ distinct [] e = tt
 distinct (n ∷ rest) e =
     let with_rest : clashes (n ∷ []) rest ≡ [] = left_empty (clashes (n ∷ []) rest) (seconds rest) e in
     let in_rest : flat_map (λ b. where_place (bytes_eq n.name b.name) (later_of n.at b.at)) rest ≡ [] =
-        left_empty (flat_map (λ b. where_place (bytes_eq n.name b.name) (later_of n.at b.at)) rest) [] with_rest in (
+    left_empty (flat_map (λ b. where_place (bytes_eq n.name b.name) (later_of n.at b.at)) rest) [] with_rest in (
       each_of_map (λ (m : Named). m.name) (λ y. bytes_eq n.name y ≡ false) rest
-        (each_by rest (λ b h. not_placed (bytes_eq n.name b.name) (later_of n.at b.at) h)
-        (each_empty (λ b. where_place (bytes_eq n.name b.name) (later_of n.at b.at)) rest in_rest)),
+          (each_by rest (λ b h. not_placed (bytes_eq n.name b.name) (later_of n.at b.at) h)
+          (each_empty (λ b. where_place (bytes_eq n.name b.name) (later_of n.at b.at)) rest in_rest)),
       distinct rest (right_empty (clashes (n ∷ []) rest) (seconds rest) e),
     )
 
@@ -124,8 +124,8 @@ declares_once mode file sound =
     let q = bare_program p in
     let none : declared_twice p ≡ [] = empty_if_nowhere (declared_twice p) sound.none_is_declared_twice in
     each_by (scopes p)
-      (λ s e. distinct (declared p s) (left_empty (two_declarations p s) _ e))
-      (each_empty (declared_twice_in p q) (scopes p) (left_empty (flat_map (declared_twice_in p q) (scopes p)) _ none))
+    (λ s e. distinct (declared p s) (left_empty (two_declarations p s) _ e))
+    (each_empty (declared_twice_in p q) (scopes p) (left_empty (flat_map (declared_twice_in p q) (scopes p)) _ none))
 
 -- what holds of each scope holds of each unit
 each_in_append : {A : Type 0} (P : A → Type 0) (xs ys : List A) → Each (xs ++ ys) P → Each ys P
@@ -143,24 +143,24 @@ names_are_known mode file sound =
     let none : undeclared_names p ≡ [] = empty_if_nowhere (undeclared_names p) sound.each_name_is_declared in
     let in_scopes : Each (scopes p) (λ s. undeclared_in_scope q s ≡ []) = each_empty (undeclared_in_scope q) (scopes p) none in
     let in_units : Each p.units (λ u. undeclared_in_scope q (Of_unit u) ≡ []) =
-        each_before_map Of_unit (λ s. undeclared_in_scope q s ≡ []) p.units (each_in_append (λ s. undeclared_in_scope q s ≡ []) _ (map Of_unit p.units) in_scopes) in
+    each_before_map Of_unit (λ s. undeclared_in_scope q s ≡ []) p.units (each_in_append (λ s. undeclared_in_scope q s ≡ []) _ (map Of_unit p.units) in_scopes) in
     each_by p.units (λ u e.
-      each_by (steps_of u) (λ s h.
-        each_by (flat_map bare_name (parts_read s.step)) (λ n known. not_false _ known)
-          (none_where (is_no_value (entity_of file u)) (flat_map bare_name (parts_read s.step)) (left_empty (places_where (is_no_value (entity_of file u)) (flat_map bare_name (parts_read s.step))) _ h)))
-        (each_empty (λ s. undeclared_in_step (entity_of file u) s.step) (steps_of u) (left_empty (flat_map (λ (s : Stands). undeclared_in_step (entity_of file u) s.step) (steps_of u)) _ e)))
-      in_units
+    each_by (steps_of u) (λ s h.
+    each_by (flat_map bare_name (parts_read s.step)) (λ n known. not_false _ known)
+    (none_where (is_no_value (entity_of file u)) (flat_map bare_name (parts_read s.step)) (left_empty (places_where (is_no_value (entity_of file u)) (flat_map bare_name (parts_read s.step))) _ h)))
+    (each_empty (λ s. undeclared_in_step (entity_of file u) s.step) (steps_of u) (left_empty (flat_map (λ (s : Stands). undeclared_in_step (entity_of file u) s.step) (steps_of u)) _ e)))
+    in_units
 
 pub calls_are_known : (mode : Mode) (file : File) → Sound mode file → CallsAreKnown file
 calls_are_known mode file sound =
     let p = placed file in
     let none : unit_faults p ≡ [] = empty_if_nowhere (unit_faults p) sound.calls_name_units in
     each_by p.units (λ u e.
-      each_by (steps_of u) (λ s h.
-        each_by (call_name s.step) (λ n known. not_false _ known)
-          (none_where _ (call_name s.step) (left_empty _ _ h)))
-        (each_empty (λ s. unit_faults_in_step (entity_of file u) s.step) (steps_of u) e))
-      (each_empty _ p.units none)
+    each_by (steps_of u) (λ s h.
+    each_by (call_name s.step) (λ n known. not_false _ known)
+    (none_where _ (call_name s.step) (left_empty _ _ h)))
+    (each_empty (λ s. unit_faults_in_step (entity_of file u) s.step) (steps_of u) e))
+    (each_empty _ p.units none)
 
 -- ---- The first fault
 

@@ -8,18 +8,16 @@ use Rattle.fort_arith.specs.declared.op.Intrinsic.{Intrinsic}
 use Rattle.fort_arith.specs.declared.op.Intrinsic.TheVariants.{Abs, Int, Max, Min, Mod, Modulo, Sign, Size, Sum}
 use Rattle.fort_tree.specs.declared.place.Place.{Place}
 use Rattle.fort_tree.specs.declared.stmt.Named.{Named}
-use Rattle.fort_tree.specs.declared.unit.Intent.{Intent}
-use Rattle.fort_tree.specs.declared.unit.Intent.TheVariants.{In, Out, InOut}
 use Rattle.fort_tree.specs.Intrinsic.{intrinsic_named}
 use Rattle.claw_meaning.specs.Syntax as plain
 use Rattle.claw_meaning.specs.Syntax.{Text}
 use Rattle.claw_meaning.specs.Scope.{Entity, Unknown, Variable, Constant, Procedure}
 use Rattle.claw_meaning.specs.Units.{is_intent_in}
 use Rattle.sound_programs.specs.Places.{where_place}
-use Rattle.sound_programs.specs.Links.{Links, leads}
-use Rattle.sound_programs.specs.Placed.{Expr, Name, Reference, Subscripts, Decl, Unit, Program, first, bare_program}
-use Rattle.sound_programs.specs.Scopes.{Scope, Of_unit, entity_in, is_variable, is_in_dummy, is_dummy, is_prefix, module_variable, unit_of, unit_named, is_written_intent}
-use Rattle.sound_programs.specs.Walks.{Step, Stands, steps_of, parts_of, left_of, name_in, names_in, private_names, loop_variable, reference, count_of, Site, sites, Actual, actuals, is_written}
+use Rattle.sound_programs.specs.Links.{leads}
+use Rattle.sound_programs.specs.Placed.{Expr, Name, Reference, Unit, Program, first, bare_program}
+use Rattle.sound_programs.specs.Scopes.{Of_unit, entity_in, is_variable, is_in_dummy, is_dummy, module_variable, unit_of, is_written_intent}
+use Rattle.sound_programs.specs.Walks.{Step, steps_of, parts_of, left_of, name_in, names_in, private_names, loop_variable, reference, count_of, Site, sites, Actual, actuals, is_written}
 use Rattle.sound_programs.specs.CallFaults.{calls, sites_of}
 use Rattle.sound_programs.specs.NameFaults.{places_where}
 
@@ -55,7 +53,7 @@ module _ (entity : Text → Entity) where
   abbrev pub intrinsic_count_differs : Step → List Place
   intrinsic_count_differs step =
       flat_map (λ s. where_place (not (intrinsic_takes (intrinsic_named s.name.name) (count_of s.args))) s.name.at)
-        (flat_map reference (parts_of step))
+      (flat_map reference (parts_of step))
 
   abbrev pub counts_differ : Step → List Place
   counts_differ step = unit_count_differs step ++ intrinsic_count_differs step
@@ -151,7 +149,7 @@ is_writable entity other = false
 abbrev pub passes_fixed : (Text → Entity) → Step → List Place
 passes_fixed entity step =
     flat_map (λ a. flat_map (λ e. where_place (not (is_writable entity e)) (first e)) (option_to_list a.expr))
-      (filter is_written (flat_map (actuals entity) (sites entity step)))
+    (filter is_written (flat_map (actuals entity) (sites entity step)))
 
 abbrev pub writes_fixed : (Text → Entity) → Step → List Place
 writes_fixed entity step = assigns_fixed entity step ++ passes_fixed entity step

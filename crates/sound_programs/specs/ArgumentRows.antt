@@ -1,5 +1,5 @@
 -- Small programs with and without faults of arguments and writes: each is the least that shows a clause of a rule, or its neighbour.
-use Rattle.std.specs.Prelude.{List, [], ◌∷◌, codes, Option, Some, None, true, false}
+use Rattle.std.specs.Prelude.{[], ◌∷◌, codes, Some, None, true}
 use Rattle.fort_arith.specs.declared.kind.Kind.TheVariants.{I4}
 use Rattle.fort_arith.specs.declared.op.Op.TheVariants.{Gt, And}
 use Rattle.fort_tree.specs.declared.unit.Intent.TheVariants.{In, Out, InOut}

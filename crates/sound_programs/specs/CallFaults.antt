@@ -1,11 +1,11 @@
 -- Cycles of calls, their depth, and the number of units. Each clause lists the places at which it holds.
-use Rattle.std.specs.Prelude.{ℕ, List, [], ◌∷◌, ◌++◌, map, Option, Some, None, Bool, true, false, ◌&&◌, not, flat_map, slice_get}
+use Rattle.std.specs.Prelude.{List, [], ◌∷◌, ◌++◌, map, Option, Some, None, Bool, ◌&&◌, not, flat_map, slice_get}
 use Rattle.std.specs.List.{filter}
 use Rattle.fort_tree.specs.declared.place.Place.{Place}
 use Rattle.claw_meaning.specs.Syntax as plain
 use Rattle.claw_meaning.specs.Syntax.{Text}
 use Rattle.claw_meaning.specs.Scope.{Entity}
-use Rattle.sound_programs.specs.Places.{where_place, the_first}
+use Rattle.sound_programs.specs.Places.{the_first}
 use Rattle.sound_programs.specs.Links.{Links, is_on_cycle, begins_chain, leads_to_cycle}
 use Rattle.sound_programs.specs.Placed.{Unit, Program, bare_program}
 use Rattle.sound_programs.specs.Scopes.{Of_unit, entity_in, unit_of}

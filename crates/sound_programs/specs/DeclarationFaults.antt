@@ -1,6 +1,6 @@
 -- Names that are declared twice, USE lines that bring nothing or form a cycle, and INTENT. Each clause lists the places at
 -- which it holds. Of two the second is the later in the text.
-use Rattle.std.specs.Prelude.{ℕ, List, [], ◌∷◌, ◌++◌, map, Option, Some, None, Bool, true, false, ◌&&◌, ◌||◌, not, is_some, is_none, flat_map, if◌then◌else◌}
+use Rattle.std.specs.Prelude.{List, [], ◌∷◌, ◌++◌, map, Some, Bool, ◌&&◌, not, is_some, is_none, flat_map}
 use Rattle.std.specs.List.{filter}
 use Rattle.std.specs.Option.{option_to_list}
 use Rattle.std.specs.Str.{bytes_eq}
@@ -11,7 +11,7 @@ use Rattle.claw_meaning.specs.Syntax as plain
 use Rattle.claw_meaning.specs.Syntax.{Text}
 use Rattle.sound_programs.specs.Places.{later_of, is_earlier, where_place}
 use Rattle.sound_programs.specs.Links.{leads}
-use Rattle.sound_programs.specs.Placed.{Decl, Unit, Module, Program, bare_program}
+use Rattle.sound_programs.specs.Placed.{Module, Program, bare_program}
 use Rattle.sound_programs.specs.Scopes.{Scope, Of_unit, Of_module, scopes, uses_of, decls_of, is_dummy, declared, named_unit, named_module, is_given, is_brought, entities_of_modules, place_of_use, only_names, module_named, origin, same_origin, is_prefix}
 use Rattle.sound_programs.specs.NameFaults.{places_where}
 

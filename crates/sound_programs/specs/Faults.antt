@@ -1,6 +1,6 @@
 -- Each fault of names, calls and kinds as a predicate on a file and a place; the phases in which they are sought; the first
 -- fault.
-use Rattle.std.specs.Prelude.{◌≡◌, ℕ, List, [], ◌∷◌, ◌++◌, map, Option, Some, None, Bool, true, false, ◌&&◌, ◌||◌, not, IsTrue, nat_lt, nat_eq}
+use Rattle.std.specs.Prelude.{◌≡◌, List, [], ◌++◌, map, Bool, ◌&&◌, ◌||◌, not, IsTrue, nat_lt, nat_eq}
 use Rattle.std.specs.List.{list_any, list_all}
 use Rattle.fort_tree.specs.Code.{code_number}
 use Rattle.fort_tree.specs.declared.choice.Mode.{Mode}

@@ -1,12 +1,10 @@
 -- The small programs as files: the sound one is Sound, and for each fault its predicate holds of the smallest file that has it,
 -- at its place.
-use Rattle.std.specs.Prelude.{ℕ}
-use Rattle.fort_tree.specs.declared.choice.Mode.TheVariants.{Source, Target}
-use Rattle.fort_tree.specs.declared.fault.Code.TheVariants.{E30, E32, E36}
+use Rattle.fort_tree.specs.declared.choice.Mode.TheVariants.{Source}
+use Rattle.fort_tree.specs.declared.fault.Code.TheVariants.{E30, E36}
 use Rattle.sound_programs.specs.Faults.{UndeclaredName, DeclaredTwice, ModuleFault, UnitFault, LoopVariableFault, IntentFault, Recursion, UnitsOrDepth, KindFault, RankFault, ArgumentCount, Alias, WriteFault, FirstFault}
 use Rattle.sound_programs.specs.Writing.{file_of}
-use Rattle.sound_programs.specs.Rows.{HasNone, fault}
-use Rattle.sound_programs.specs.Sound.{Sound}
+use Rattle.sound_programs.specs.Rows.{fault}
 use Rattle.sound_programs.specs.SmallPrograms.{place, many_units}
 use Rattle.sound_programs.specs.NameRows.{undeclared_variable, two_declarations, uses_in_circle, no_subroutine, named_after_loop, dummy_without_intent}
 use Rattle.sound_programs.specs.CallRows.{calls_in_circle, three_phases, two_phases}

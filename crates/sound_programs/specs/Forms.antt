@@ -1,13 +1,13 @@
 -- The forms of a text, one for each statement and one for each directive, in the order of the text. Forms know nothing of what
 -- stands around them.
-use Rattle.std.specs.Prelude.{List, Option, Some, None, Bool, true, false}
+use Rattle.std.specs.Prelude.{Bool, true, false}
 use Rattle.fort_tree.specs.declared.choice.Mode.{Mode}
 use Rattle.fort_tree.specs.declared.choice.Mode.TheVariants.{Source, Target}
 use Rattle.fort_tree.specs.declared.place.Place.{Place}
 use Rattle.fort_tree.specs.declared.statement.Statement.{Statement}
 use Rattle.fort_tree.specs.declared.stmt.Directive.{Directive}
 use Rattle.fort_tree.specs.declared.stmt.DirectiveWord.{DirectiveWord}
-use Rattle.fort_tree.specs.declared.stmt.DirectiveWord.TheVariants.{Define, Parallelize, Forward, Fusion, Interchange, Hoist, EndHoist, Transform, EndTransform, Cache, Column, OpenMpLoop, OpenAccLoop, Routine}
+use Rattle.fort_tree.specs.declared.stmt.DirectiveWord.TheVariants.{Define, Parallelize, Forward, Fusion, Interchange, Hoist, EndHoist, Transform, EndTransform, Cache, OpenMpLoop, OpenAccLoop, Routine}
 
 pub data Form : Type 0 where
   Says : Place → Statement → Form  -- a statement, with the place of its first token

@@ -1,12 +1,12 @@
 -- Faults of kinds. Each clause lists the places at which it holds.
-use Rattle.std.specs.Prelude.{ℕ, ℤ, pos, ◌-ℤ◌, int_le, List, [], ◌∷◌, ◌++◌, map, Option, Some, None, Bool, true, false, ◌&&◌, ◌||◌, not, is_some, is_none, flat_map, if◌then◌else◌}
+use Rattle.std.specs.Prelude.{ℤ, pos, ◌-ℤ◌, int_le, List, [], ◌∷◌, ◌++◌, Option, Some, None, Bool, true, false, ◌&&◌, ◌||◌, not, is_none, flat_map, if◌then◌else◌}
 use Rattle.std.specs.List.{filter}
 use Rattle.std.specs.Option.{option_to_list}
 use Rattle.std.specs.Str.{bytes_eq}
 use Rattle.fort_arith.specs.declared.kind.Kind.{Kind}
 use Rattle.fort_arith.specs.declared.kind.Kind.TheVariants.{I1, I2, I4, I8, Logical}
 use Rattle.fort_arith.specs.declared.op.Op.{Op}
-use Rattle.fort_arith.specs.declared.op.Op.TheVariants.{Pow, Mul, Div, Add, Sub, Eq, Ne, Lt, Le, Gt, Ge, And, Or, Eqv, Neqv}
+use Rattle.fort_arith.specs.declared.op.Op.TheVariants.{Add, Sub}
 use Rattle.fort_arith.specs.declared.op.Intrinsic.{Intrinsic}
 use Rattle.fort_arith.specs.declared.op.Intrinsic.TheVariants.{Abs, Int, Max, Min, Mod, Modulo, Sign, Size, Sum}
 use Rattle.fort_arith.specs.Operators.{is_arithmetic, is_relation}
@@ -14,19 +14,18 @@ use Rattle.fort_arith.specs.Range.{is_whole, in_kind}
 use Rattle.fort_tree.specs.declared.place.Place.{Place}
 use Rattle.fort_tree.specs.declared.expr.Unary.{Unary}
 use Rattle.fort_tree.specs.declared.expr.Unary.TheVariants.{Plus, Minus, Not}
-use Rattle.fort_tree.specs.declared.stmt.DirectiveWord.{DirectiveWord}
 use Rattle.fort_tree.specs.Intrinsic.{intrinsic_named}
 use Rattle.fort_tree.specs.Same.{same_kind}
 use Rattle.claw_meaning.specs.Syntax as plain
 use Rattle.claw_meaning.specs.Syntax.{Text}
 use Rattle.claw_meaning.specs.Scope.{Entity, Unknown, Variable, Constant, Procedure}
-use Rattle.claw_meaning.specs.Units.{is_listed, is_intent_in, is_array_decl, is_word_define, constant_whole}
+use Rattle.claw_meaning.specs.Units.{is_intent_in, is_array_decl, is_word_define, constant_whole}
 use Rattle.claw_meaning.specs.Kinds.{or_default}
-use Rattle.sound_programs.specs.Places.{where_place, option_places}
-use Rattle.sound_programs.specs.Placed.{Expr, Numeral, Boolean, Name, Reference, Signed, Binary, Paren, Subscripts, No_more, One, Section, Dimension, Decl, Directive, Head, Range, Single, Span, Unit, Program, first, after_first, bare_program}
-use Rattle.sound_programs.specs.Scopes.{Scope, Of_unit, Of_module, scopes, decls_of, name_of_scope, is_dummy, entity_in, is_array, unit_of}
-use Rattle.sound_programs.specs.Walks.{Step, Assigns, Calls, Tests, Chooses, Repeats, Stands, steps_of, parts, parts_of, single_subscripts, section_bounds, in_head, bounds_of, bounds_in, sites, Actual, actuals}
-use Rattle.sound_programs.specs.Kinding.{kind, is_integer, is_logical, integer, kind_named_by}
+use Rattle.sound_programs.specs.Places.{where_place}
+use Rattle.sound_programs.specs.Placed.{Expr, Numeral, Boolean, Name, Reference, Signed, Binary, Paren, Subscripts, No_more, One, Section, Decl, Directive, Range, Single, Span, Program, first, after_first, bare_program}
+use Rattle.sound_programs.specs.Scopes.{Scope, Of_unit, Of_module, scopes, name_of_scope, is_dummy, entity_in, is_array}
+use Rattle.sound_programs.specs.Walks.{Step, Assigns, Calls, Tests, Chooses, Repeats, steps_of, parts, parts_of, single_subscripts, section_bounds, in_head, bounds_in, sites, Actual, actuals}
+use Rattle.sound_programs.specs.Kinding.{kind, is_integer, is_logical, kind_named_by}
 
 -- Literals
 

@@ -1,5 +1,5 @@
 -- Small programs with and without faults of kinds: each is the least that shows a clause of a rule, or its neighbour.
-use Rattle.std.specs.Prelude.{List, [], ◌∷◌, codes, Option, Some, None, true, false}
+use Rattle.std.specs.Prelude.{[], ◌∷◌, codes, Some, None, true, false}
 use Rattle.fort_arith.specs.declared.kind.Kind.TheVariants.{I1, I4, I8}
 use Rattle.fort_arith.specs.declared.op.Op.TheVariants.{Add, Eq, Gt, Eqv}
 use Rattle.fort_tree.specs.declared.expr.Unary.TheVariants.{Minus, Not}

@@ -1,7 +1,7 @@
 -- The kind of an expression, where its faults leave one: as `kind_of` of claw_meaning, but there is none where a fault leaves
 -- it open, and a kind that is open makes no further fault. A relation and a logical operation are LOGICAL whatever their
 -- operands are; SIZE has kind 4; INT has kind 4 or the kind that its second argument gives.
-use Rattle.std.specs.Prelude.{ℕ, List, [], ◌∷◌, Option, Some, None, Bool, true, false, ◌&&◌, if◌then◌else◌, nat_eq}
+use Rattle.std.specs.Prelude.{ℕ, List, [], ◌∷◌, Option, Some, None, Bool, false, ◌&&◌, if◌then◌else◌, nat_eq}
 use Rattle.fort_arith.specs.declared.kind.Kind.{Kind}
 use Rattle.fort_arith.specs.declared.kind.Kind.TheVariants.{I1, I2, I4, I8, Logical}
 use Rattle.fort_arith.specs.declared.op.Op.{Op}
@@ -16,7 +16,7 @@ use Rattle.fort_tree.specs.Same.{same_kind}
 use Rattle.claw_meaning.specs.Syntax as plain
 use Rattle.claw_meaning.specs.Syntax.{Text}
 use Rattle.claw_meaning.specs.Scope.{Entity, Unknown, Variable, Constant, Procedure, decl_named}
-use Rattle.claw_meaning.specs.Kinds.{greater, or_default, result_name}
+use Rattle.claw_meaning.specs.Kinds.{greater, or_default}
 use Rattle.sound_programs.specs.Placed.{Expr, Numeral, Boolean, Name, Reference, Signed, Binary, Paren, Subscripts, No_more, One, Section, after_first}
 
 abbrev pub kind_of_decl : Option plain.Decl → Option Kind

@@ -1,19 +1,18 @@
 -- What the laws of sound programs state.
-use Rattle.std.specs.Prelude.{◌≡◌, ◌↔◌, IsTrue, List, [], ◌∷◌, map, flat_map}
+use Rattle.std.specs.Prelude.{IsTrue, List, map, flat_map}
 use Rattle.std.specs.List.{AllByRecursion, IsDistinct}
 use Rattle.std.specs.Str.{bytes_eq}
 use Rattle.fort_tree.specs.declared.choice.Mode.{Mode}
 use Rattle.fort_tree.specs.declared.unit.File.{File}
 use Rattle.claw_meaning.specs.Syntax.{Text}
 use Rattle.claw_meaning.specs.Scope.{Entity}
-use Rattle.sound_programs.specs.CallFaults.{Referral, referrals, calls, sites_of}
-use Rattle.sound_programs.specs.Links.{Links, leads, Reaches}
-use Rattle.sound_programs.specs.Placed.{Unit, Program, bare_program}
+use Rattle.sound_programs.specs.CallFaults.{referrals, calls}
+use Rattle.sound_programs.specs.Links.{Reaches}
+use Rattle.sound_programs.specs.Placed.{Unit, bare_program}
 use Rattle.sound_programs.specs.Placing.{placed}
-use Rattle.sound_programs.specs.Scopes.{Scope, Of_unit, scopes, declared, entity_in, is_variable_or_constant, is_subroutine}
-use Rattle.sound_programs.specs.Walks.{Step, Stands, steps_of, parts_read, bare_name, call_name}
+use Rattle.sound_programs.specs.Scopes.{Of_unit, scopes, declared, entity_in, is_variable_or_constant, is_subroutine}
+use Rattle.sound_programs.specs.Walks.{steps_of, parts_read, bare_name, call_name}
 use Rattle.sound_programs.specs.Faults.{Found, FirstFault}
-use Rattle.sound_programs.specs.Sound.{Sound}
 
 -- each of the list
 abbrev pub Each : {A : Type 0} → List A → (A → Type 0) → Type 0

@@ -1,10 +1,9 @@
 -- How the variable of a DO may be used. Each clause lists the places at which it holds.
-use Rattle.std.specs.Prelude.{List, [], ◌∷◌, ◌++◌, map, Option, Some, None, Bool, true, false, ◌&&◌, not, is_none, flat_map}
+use Rattle.std.specs.Prelude.{List, [], ◌∷◌, ◌++◌, map, Bool, true, false, ◌&&◌, not, is_none, flat_map}
 use Rattle.std.specs.List.{filter, list_any}
 use Rattle.std.specs.Str.{bytes_eq}
 use Rattle.fort_arith.specs.Range.{is_whole}
 use Rattle.fort_tree.specs.declared.place.Place.{Place}
-use Rattle.fort_tree.specs.declared.stmt.Named.{Named}
 use Rattle.claw_meaning.specs.Syntax.{Text}
 use Rattle.claw_meaning.specs.Scope.{Entity}
 use Rattle.claw_meaning.specs.Units.{is_listed}
@@ -50,7 +49,7 @@ assigned_inside s = places_where (λ n. is_listed s.loops n.name) (flat_map name
 abbrev pub passed_inside : (Text → Entity) → Stands → List Place
 passed_inside entity s =
     places_where (λ n. is_listed s.loops n.name)
-      (flat_map (λ a. name_of_actual a.expr) (filter is_written (flat_map (actuals entity) (sites entity s.step))))
+    (flat_map (λ a. name_of_actual a.expr) (filter is_written (flat_map (actuals entity) (sites entity s.step))))
 
 -- a second DO in the loop with its variable
 abbrev pub used_again_inside : Stands → List Place

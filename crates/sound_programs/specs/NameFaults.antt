@@ -1,6 +1,6 @@
 -- Names that are used and not declared, and names that are called or referred to and are no unit. Each clause lists the
 -- places at which it holds.
-use Rattle.std.specs.Prelude.{List, [], ◌∷◌, ◌++◌, map, Option, Some, None, Bool, true, false, ◌&&◌, ◌||◌, not, is_some, is_none, flat_map}
+use Rattle.std.specs.Prelude.{List, ◌++◌, map, Bool, ◌&&◌, ◌||◌, not, is_some, flat_map}
 use Rattle.std.specs.List.{filter}
 use Rattle.std.specs.Option.{option_to_list}
 use Rattle.fort_tree.specs.declared.place.Place.{Place}
@@ -11,8 +11,8 @@ use Rattle.claw_meaning.specs.Syntax.{Text}
 use Rattle.claw_meaning.specs.Scope.{Entity}
 use Rattle.claw_meaning.specs.Units.{is_listed}
 use Rattle.sound_programs.specs.Placed.{Decl, Unit, Program, bare_program}
-use Rattle.sound_programs.specs.Scopes.{Scope, Of_unit, Of_module, scopes, decls_of, entity_in, is_variable, is_variable_or_constant, is_array, is_function, is_subroutine}
-use Rattle.sound_programs.specs.Walks.{Step, Stands, steps_of, parts, parts_read, left_of, name_in, bare_name, name_before_parenthesis, call_name, loop_variable, private_names, bounds_in}
+use Rattle.sound_programs.specs.Scopes.{Scope, Of_unit, Of_module, scopes, entity_in, is_variable, is_variable_or_constant, is_array, is_function, is_subroutine}
+use Rattle.sound_programs.specs.Walks.{Step, steps_of, parts, parts_read, left_of, name_in, bare_name, name_before_parenthesis, call_name, loop_variable, private_names, bounds_in}
 
 -- the places of the names that pass the test
 abbrev pub places_where : (Named → Bool) → List Named → List Place
@@ -67,13 +67,13 @@ module _ (entity : Text → Entity) where
   abbrev pub refers_to_nothing : Step → List Place
   refers_to_nothing step =
       places_where (λ n. not (is_some (intrinsic_named n.name) || (is_array (entity n.name) || is_function (entity n.name))))
-        (flat_map name_before_parenthesis (parts_read step))
+      (flat_map name_before_parenthesis (parts_read step))
 
   -- A left side with parentheses names a scalar or a PARAMETER. One that names no variable or constant is an undeclared name.
   abbrev pub assigns_to_no_array : Step → List Place
   assigns_to_no_array step =
       places_where (λ n. is_variable_or_constant (entity n.name) && not (is_array (entity n.name)))
-        (flat_map name_before_parenthesis (left_of step))
+      (flat_map name_before_parenthesis (left_of step))
 
   abbrev pub unit_faults_in_step : Step → List Place
   unit_faults_in_step step = calls_no_subroutine step ++ (refers_to_nothing step ++ assigns_to_no_array step)

@@ -1,5 +1,5 @@
 -- Small programs with and without faults of names: each is the least that shows a clause of a rule, or its neighbour.
-use Rattle.std.specs.Prelude.{List, [], ◌∷◌, codes, Option, Some, None}
+use Rattle.std.specs.Prelude.{[], ◌∷◌, codes, Some, None}
 use Rattle.fort_arith.specs.declared.kind.Kind.TheVariants.{I4}
 use Rattle.fort_tree.specs.declared.unit.Intent.TheVariants.{In, InOut}
 use Rattle.fort_tree.specs.declared.choice.Mode.TheVariants.{Source, Target}

@@ -1,9 +1,7 @@
 -- How forms nest into a program: a list of forms and the tree that it makes. Each relation reads forms from the front of a
 -- list, makes a tree of them, and leaves the forms behind them. Limits on tokens, nesting and depth are set aside.
 use Rattle.std.specs.Prelude.{◌≡◌, ℕ, suc, ◌+◌, length, List, [], ◌∷◌, ◌++◌, Option, Some, None, Bool, true, false, IsTrue, ◌⊎◌}
-use Rattle.std.specs.Str.{bytes_eq}
 use Rattle.fort_arith.specs.declared.kind.Kind.{Kind}
-use Rattle.fort_tree.specs.declared.boxed.Boxed.{Boxed}
 use Rattle.fort_tree.specs.declared.choice.Mode.{Mode}
 use Rattle.fort_tree.specs.declared.choice.Mode.TheVariants.{Source, Target}
 use Rattle.fort_tree.specs.declared.expr.Expr.{Expr}
@@ -190,22 +188,22 @@ module _ (mode : Mode) where
         {head inside rest : List Form} {end : Form} →
         Head-part head lines decls pair mark inside → Paired pair → Body in_unit inside body (end ∷ rest) → Ends word.Subroutine name.name at end →
         IsUnit host (Says at (form.Subroutine name dummies) ∷ head)
-          (record { name = name.name; at = name.at; dummies = dummies; result = None; uses = lines; decls = decls; marks = pair ++ mark; body = body; host = host }) rest
+        (record { name = name.name; at = name.at; dummies = dummies; result = None; uses = lines; decls = decls; marks = pair ++ mark; body = body; host = host }) rest
     function : {at : Place} {prefix : Option (Kind × Place)} {name : Named} {dummies : List Named} {result : Option Named} {lines : List Use} {decls : List Decl} {mark : List Directive} {body : List Stmt}
         {head inside rest : List Form} {end : Form} →
         Head-part head lines decls [] mark inside → Body in_unit inside body (end ∷ rest) → Ends word.Function name.name at end →
         IsUnit host (Says at (form.Function prefix name dummies result) ∷ head)
-          (record {
-            name = name.name;
-            at = name.at;
-            dummies = dummies;
-            result = Some (result_or_name name result);
-            uses = lines;
-            decls = prefix_decl (result_or_name name result) prefix ++ decls;
-            marks = mark;
-            body = body;
-            host = host;
-          }) rest
+        (record {
+          name = name.name;
+          at = name.at;
+          dummies = dummies;
+          result = Some (result_or_name name result);
+          uses = lines;
+          decls = prefix_decl (result_or_name name result) prefix ++ decls;
+          marks = mark;
+          body = body;
+          host = host;
+        }) rest
 
   pub data AreUnits (host : Option ℕ) : List Form → List unit.Unit → List Form → Type 0 where
     no_more_units : {rest : List Form} → AreUnits host rest [] rest

@@ -1,6 +1,6 @@
 -- The tree of a program with its places, as the plain tree of its meaning has none. A list is its items, and a box is what
 -- it holds. The faults of a program are defined on it, and a plain tree is what is left when the places are forgotten.
-use Rattle.std.specs.Prelude.{ℕ, List, [], ◌∷◌, map, Option, Some, None, Bool}
+use Rattle.std.specs.Prelude.{ℕ, List, map, Option, Bool}
 use Rattle.std.specs.Option.{option_map}
 use Rattle.fort_arith.specs.declared.kind.Kind.{Kind}
 use Rattle.fort_arith.specs.declared.op.Op.{Op}

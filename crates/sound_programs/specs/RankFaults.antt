@@ -1,5 +1,5 @@
 -- Faults of ranks. Each clause lists the places at which it holds.
-use Rattle.std.specs.Prelude.{ℕ, zero, suc, List, [], ◌∷◌, ◌++◌, map, length, Option, Some, None, Bool, true, false, ◌&&◌, ◌||◌, not, is_some, is_none, nat_eq, nat_le, nat_lt, flat_map, if◌then◌else◌}
+use Rattle.std.specs.Prelude.{ℕ, List, [], ◌∷◌, ◌++◌, map, length, Option, Some, None, Bool, true, false, ◌&&◌, ◌||◌, not, is_some, is_none, nat_eq, nat_le, nat_lt, flat_map, if◌then◌else◌}
 use Rattle.std.specs.List.{filter, list_any}
 use Rattle.std.specs.Option.{option_to_list}
 use Rattle.std.specs.Str.{bytes_eq}
@@ -11,12 +11,12 @@ use Rattle.fort_tree.specs.declared.place.Place.{Place}
 use Rattle.fort_tree.specs.Intrinsic.{intrinsic_named}
 use Rattle.claw_meaning.specs.Syntax as plain
 use Rattle.claw_meaning.specs.Syntax.{Text}
-use Rattle.claw_meaning.specs.Scope.{Entity, Unknown, Variable, Constant, Procedure}
+use Rattle.claw_meaning.specs.Scope.{Entity}
 use Rattle.sound_programs.specs.Places.{where_place}
-use Rattle.sound_programs.specs.Placed.{Expr, Numeral, Boolean, Name, Reference, Signed, Binary, Paren, Subscripts, No_more, One, Section, Dimension, Decl, Head, Range, Unit, Program, first, bare_program}
-use Rattle.sound_programs.specs.Scopes.{Scope, Of_unit, Of_module, scopes, decls_of, is_dummy, entity_in, is_array, is_variable, is_function}
-use Rattle.sound_programs.specs.Walks.{Step, Assigns, Calls, Tests, Chooses, Repeats, steps_of, parts_of, single_subscripts, section_bounds, section_places, count_of, in_head, call_site, sites, Site, Actual, actuals}
-use Rattle.sound_programs.specs.Ranking.{Operand, operands, operands_in, rank, rank_of_entity, differing}
+use Rattle.sound_programs.specs.Placed.{Expr, Numeral, Name, Reference, Subscripts, No_more, One, Section, Dimension, Decl, Unit, Program, first, bare_program}
+use Rattle.sound_programs.specs.Scopes.{Scope, Of_unit, Of_module, scopes, decls_of, is_dummy, entity_in, is_array, is_variable}
+use Rattle.sound_programs.specs.Walks.{Step, Assigns, Calls, Tests, Chooses, Repeats, steps_of, parts_of, single_subscripts, section_bounds, section_places, count_of, in_head, sites, Actual, actuals}
+use Rattle.sound_programs.specs.Ranking.{operands, rank, rank_of_entity, differing}
 
 -- Declarations
 

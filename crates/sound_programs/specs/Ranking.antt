@@ -1,12 +1,11 @@
 -- The array operands of an expression, and its rank. An array named without subscripts has its rank, one with sections as
 -- many as there are sections; an element, a function, SIZE and SUM are scalar. Arguments of the other intrinsics belong to
 -- the operands around them; arrays inside SUM, SIZE, the arguments of a function or subscripts don't.
-use Rattle.std.specs.Prelude.{ℕ, zero, suc, List, [], ◌∷◌, ◌++◌, length, Option, Some, None, Bool, true, false, not, nat_eq, if◌then◌else◌}
+use Rattle.std.specs.Prelude.{ℕ, zero, suc, List, [], ◌∷◌, ◌++◌, length, Option, Some, None, Bool, true, false, nat_eq, if◌then◌else◌}
 use Rattle.fort_arith.specs.declared.op.Intrinsic.{Intrinsic}
 use Rattle.fort_arith.specs.declared.op.Intrinsic.TheVariants.{Abs, Int, Max, Min, Mod, Modulo, Sign, Size, Sum}
 use Rattle.fort_tree.specs.declared.place.Place.{Place}
 use Rattle.fort_tree.specs.Intrinsic.{intrinsic_named}
-use Rattle.claw_meaning.specs.Syntax as plain
 use Rattle.claw_meaning.specs.Syntax.{Text}
 use Rattle.claw_meaning.specs.Scope.{Entity, Unknown, Variable, Constant, Procedure}
 use Rattle.sound_programs.specs.Placed.{Expr, Numeral, Boolean, Name, Reference, Signed, Binary, Paren, Subscripts, No_more, One, Section}

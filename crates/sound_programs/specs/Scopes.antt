@@ -3,11 +3,9 @@
 -- USE, its units among it; else an external unit. Here stands the same for a module, and where an entity is declared, which
 -- tells two entities of one name apart. A module's name is visible too, but it is no variable, no constant and no unit, so
 -- for every rule on names in statements and declarations it is as a name that nothing has.
-use Rattle.std.specs.Prelude.{ℕ, zero, suc, List, [], ◌∷◌, ◌++◌, map, length, Option, Some, None, Bool, true, false, ◌&&◌, ◌||◌, not, if◌then◌else◌, is_some, slice_get, flat_map}
-use Rattle.std.specs.List.{find, filter, position, list_any, enumerate_from}
+use Rattle.std.specs.Prelude.{ℕ, zero, suc, List, [], ◌∷◌, ◌++◌, map, length, Option, Some, None, Bool, true, false, ◌&&◌, ◌||◌, not, if◌then◌else◌, is_some, flat_map}
+use Rattle.std.specs.List.{find, filter, position, enumerate_from}
 use Rattle.std.specs.Str.{bytes_eq}
-use Rattle.fort_arith.specs.declared.kind.Kind.{Kind}
-use Rattle.fort_arith.specs.Range.{is_whole}
 use Rattle.fort_tree.specs.declared.place.Place.{Place}
 use Rattle.fort_tree.specs.declared.stmt.Named.{Named}
 use Rattle.fort_tree.specs.declared.unit.Intent.{Intent}
@@ -18,7 +16,7 @@ use Rattle.claw_meaning.specs.Syntax.{Text}
 use Rattle.claw_meaning.specs.Scope.{Entity, Unknown, Variable, Constant, Procedure, or_else, decl_named, procedure_of, unit_within, brings, module_at, module_gives, visible, same_host}
 use Rattle.claw_meaning.specs.Units.{is_listed, is_intent_in, is_array_decl}
 use Rattle.sound_programs.specs.Places.{is_earlier}
-use Rattle.sound_programs.specs.Placed.{Decl, Unit, Module, Program, bare_unit, bare_use, bare_program}
+use Rattle.sound_programs.specs.Placed.{Decl, Unit, Module, Program, bare_unit, bare_use}
 
 pub data Scope : Type 0 where
   Of_unit : Unit → Scope

@@ -1,21 +1,19 @@
 -- Small programs as placed trees: one that is sound, and for each fault the smallest that has it.
-use Rattle.std.specs.Prelude.{ℕ, suc, ◌+◌, List, [], ◌∷◌, ◌++◌, map, codes, decimal, Option, Some, None, Bool, true, false}
+use Rattle.std.specs.Prelude.{ℕ, suc, ◌+◌, List, [], ◌∷◌, ◌++◌, map, codes, decimal, Option, Some, None, false}
 use Rattle.std.specs.List.{range_with_len}
 use Rattle.fort_arith.specs.declared.kind.Kind.{Kind}
-use Rattle.fort_arith.specs.declared.kind.Kind.TheVariants.{I1, I4, I8, Logical}
-use Rattle.fort_arith.specs.declared.op.Op.TheVariants.{Add, Mul, Gt}
-use Rattle.fort_tree.specs.declared.expr.Unary.TheVariants.{Minus}
+use Rattle.fort_arith.specs.declared.kind.Kind.TheVariants.{I4}
+use Rattle.fort_arith.specs.declared.op.Op.TheVariants.{Add, Mul}
 use Rattle.fort_tree.specs.declared.place.Place.{Place}
-use Rattle.fort_tree.specs.declared.stmt.DirectiveWord.{DirectiveWord}
 use Rattle.fort_tree.specs.declared.stmt.DirectiveWord.TheVariants.{OpenMpLoop}
 use Rattle.fort_tree.specs.declared.stmt.Named.{Named}
 use Rattle.fort_tree.specs.declared.unit.Intent.{Intent}
-use Rattle.fort_tree.specs.declared.unit.Intent.TheVariants.{In, Out, InOut}
+use Rattle.fort_tree.specs.declared.unit.Intent.TheVariants.{In, InOut}
 use Rattle.fort_tree.specs.declared.unit.Item.{Item}
 use Rattle.fort_tree.specs.declared.unit.Item.TheVariants as item
 use Rattle.fort_tree.specs.declared.unit.Use.{Use}
 use Rattle.claw_meaning.specs.Syntax.{Text}
-use Rattle.sound_programs.specs.Placed.{Expr, Numeral, Boolean, Name, Reference, Signed, Binary, Paren, Subscripts, No_more, One, Section, Limit, Unbounded, Bounded, Dimension, Decl, Directive, Head, Range, Single, Span, Stmt, Assign, Call, If, Select, Do, Exit, Return, Stmts, Done, Then, Arms, No_arm, Arm, Cases, No_case, Case, Otherwise, Nothing_else, Else, Unit, Module, Program}
+use Rattle.sound_programs.specs.Placed.{Expr, Numeral, Name, Reference, Binary, Subscripts, No_more, One, Dimension, Decl, Directive, Stmt, Assign, Call, Do, Stmts, Done, Then, Unit, Module, Program}
 
 -- Words for them
 

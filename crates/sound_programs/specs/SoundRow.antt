@@ -1,5 +1,5 @@
 -- The small sound program: its forms nest into its file, and the file is sound.
-use Rattle.std.specs.Prelude.{List, [], ◌∷◌, codes, Option, Some, None}
+use Rattle.std.specs.Prelude.{List, [], ◌∷◌, codes, Some, None}
 use Rattle.fort_tree.specs.declared.choice.Mode.TheVariants.{Source}
 use Rattle.fort_arith.specs.declared.op.Op.TheVariants.{Add, Mul}
 use Rattle.fort_tree.specs.declared.unit.Intent.TheVariants.{In, InOut}

@@ -1,6 +1,6 @@
 -- What stands in the statements of a unit, in the order of the text: its steps, each with the variables of the DOs around
 -- it; the expressions in a step; the names in an expression; references to units with their actual arguments.
-use Rattle.std.specs.Prelude.{ℕ, suc, List, [], ◌∷◌, ◌++◌, map, Option, Some, None, Bool, true, false, ◌&&◌, not, is_none, flat_map, if◌then◌else◌}
+use Rattle.std.specs.Prelude.{ℕ, suc, List, [], ◌∷◌, ◌++◌, map, Option, Some, None, Bool, true, false, ◌&&◌, is_none, flat_map, if◌then◌else◌}
 use Rattle.std.specs.List.{filter}
 use Rattle.std.specs.Option.{option_to_list}
 use Rattle.fort_tree.specs.declared.place.Place.{Place}

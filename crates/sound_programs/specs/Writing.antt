@@ -1,7 +1,6 @@
 -- The value of the syntax tree that a placed tree is: the way back. Small programs are given as placed trees, on which faults
 -- are computed, and are files by this.
-use Rattle.std.specs.Prelude.{ℕ, List, [], ◌∷◌, map, Option, Some, None}
-use Rattle.std.specs.Option.{option_map}
+use Rattle.std.specs.Prelude.{List, [], ◌∷◌, map, Option, Some, None}
 use Rattle.fort_tree.specs.declared.expr.Expr as tree_expr
 use Rattle.fort_tree.specs.declared.expr.Expr.TheVariants as expr
 use Rattle.fort_tree.specs.declared.expr.Sub as tree_sub

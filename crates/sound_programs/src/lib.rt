@@ -12,6 +12,7 @@ pub use laws::{
     sound_programs_have_no_first_fault,
 };
 pub use rows::{
-    a_sound_program,     faults_of_arguments_by_example, faults_of_calls_by_example, faults_of_kinds_by_example,
-    faults_of_names_by_example, faults_of_ranks_by_example, faulty_files, first_faults,
+    a_sound_program, faults_of_arguments_by_example, faults_of_calls_by_example,
+    faults_of_kinds_by_example, faults_of_names_by_example, faults_of_ranks_by_example,
+    faulty_files, first_faults,
 };

@@ -8,11 +8,10 @@ use Rattle.sound_programs.specs.CallFaults.{recursions, size_faults}
 use Rattle.sound_programs.specs.KindFaults.{kind_faults}
 use Rattle.sound_programs.specs.RankFaults.{rank_faults}
 use Rattle.sound_programs.specs.ArgumentFaults.{count_faults, alias_faults, write_faults}
-use Rattle.sound_programs.specs.Placed.{Program}
 use Rattle.sound_programs.specs.Placing.{placed}
 use Rattle.sound_programs.specs.Writing.{file_of}
 use Rattle.sound_programs.specs.SmallPrograms.{sound}
-use Rattle.sound_programs.specs.SoundRow.{sound_forms, SoundRow}
+use Rattle.sound_programs.specs.SoundRow.{sound_forms}
 use Rattle.sound_programs.proofs.OnFiles.{on_file, nowhere}
 use Rattle.sound_programs.proofs.NestingOfSound.{sound-nests}
 use Rattle.sound_programs.proofs.rows.a_sound_program.Goals as goal

@@ -1,6 +1,5 @@
 use Rattle.std.proofs.Common.{refl}
 use Rattle.fort_arith.specs.Range.{in_kind, least, greatest}
-use Rattle.sound_programs.specs.ArgumentRows.{ArgumentRows}
 use Rattle.sound_programs.proofs.rows.faults_of_arguments_by_example.Goals as goal
 
 -- src/rows.rt

@@ -1,6 +1,5 @@
 use Rattle.std.proofs.Common.{refl}
 use Rattle.fort_arith.specs.Range.{in_kind, least, greatest}
-use Rattle.sound_programs.specs.CallRows.{CallRows}
 use Rattle.sound_programs.proofs.rows.faults_of_calls_by_example.Goals as goal
 
 -- src/rows.rt

@@ -1,6 +1,5 @@
 use Rattle.std.proofs.Common.{refl}
 use Rattle.fort_arith.specs.Range.{in_kind, least, greatest}
-use Rattle.sound_programs.specs.KindRows.{KindRows}
 use Rattle.sound_programs.proofs.rows.faults_of_kinds_by_example.Goals as goal
 
 -- src/rows.rt
