@@ -1,6 +1,7 @@
 -- How forms nest into a program: a list of forms and the tree that it makes. Each relation reads forms from the front of a
 -- list, makes a tree of them, and leaves the forms behind them. Limits on tokens, nesting and depth are set aside.
 use Rattle.std.specs.Prelude.{◌≡◌, ℕ, suc, ◌+◌, length, List, [], ◌∷◌, ◌++◌, Option, Some, None, Bool, true, false, IsTrue, ◌⊎◌}
+use Rattle.std.specs.List.{list_all}
 use Rattle.fort_arith.specs.declared.kind.Kind.{Kind}
 use Rattle.fort_tree.specs.declared.choice.Mode.{Mode}
 use Rattle.fort_tree.specs.declared.choice.Mode.TheVariants.{Source, Target}
@@ -9,8 +10,8 @@ use Rattle.fort_tree.specs.declared.expr.Sub.{Sub}
 use Rattle.fort_tree.specs.declared.place.Place.{Place}
 use Rattle.fort_tree.specs.declared.statement.EndWord.{EndWord}
 use Rattle.fort_tree.specs.declared.statement.EndWord.TheVariants as word
-use Rattle.fort_tree.specs.declared.statement.Statement.{Statement}
-use Rattle.fort_tree.specs.declared.statement.Statement.TheVariants as form
+use Rattle.fort_tree.specs.declared.statement.Statement.{Statement, out-Statement}
+use Rattle.fort_tree.specs.declared.statement.Statement.TheOpen.{Statement-F}
 use Rattle.fort_tree.specs.declared.stmt.Arm.{Arm}
 use Rattle.fort_tree.specs.declared.stmt.Case.{Case}
 use Rattle.fort_tree.specs.declared.stmt.Directive.{Directive}
@@ -27,7 +28,7 @@ use Rattle.fort_tree.specs.declared.unit.Item.TheVariants as item
 use Rattle.fort_tree.specs.declared.unit.Module.{Module}
 use Rattle.fort_tree.specs.declared.unit.Unit as unit
 use Rattle.fort_tree.specs.declared.unit.Use.{Use}
-use Rattle.sound_programs.specs.Forms.{Form, Says, Directs, is_forward, is_before_loop, is_loop_mark, is_block, is_define, is_parallelize, is_routine}
+use Rattle.sound_programs.specs.Forms.{is_reference, Form, Says, Directs, is_forward, is_before_loop, is_loop_mark, begins_block, ends_block, is_entity, is_range, is_define, is_parallelize, is_routine}
 
 -- Which statements may stand in a place, by what is around it
 pub record Inside : Type 0 where
@@ -57,12 +58,13 @@ abbrev pub case : List Range → List Stmt → Case
 case ranges body = roll-Case (record { ranges = ranges; body = body })
 
 -- A statement that is whole by itself
-pub data Simple (around : Inside) (at : Place) : Statement → Stmt → Type 0 where
-  assigns : (left right : Expr) → Simple around at (form.Assign left right) (tree.Assign at left right)
-  calls : (name : Named) (args : List Sub) → Simple around at (form.Call name args) (tree.Call at name args false)
-  exits : IsTrue around.exits → Simple around at form.Exit (tree.Exit at)
-  cycles : IsTrue around.cycles → Simple around at form.Cycle (tree.Cycle at)
-  returns : IsTrue around.returns → Simple around at form.Return (tree.Return at)
+pub data Simple (around : Inside) (at : Place) : Statement-F Statement → Stmt → Type 0 where
+  -- a left side is a name, with subscripts or without
+  assigns : (left right : Expr) → IsTrue (is_reference left) → Simple around at (Statement-F.Assign left right) (tree.Assign at left right)
+  calls : (name : Named) (args : List Sub) → Simple around at (Statement-F.Call name args) (tree.Call at name args false)
+  exits : IsTrue around.exits → Simple around at Statement-F.Exit (tree.Exit at)
+  cycles : IsTrue around.cycles → Simple around at Statement-F.Cycle (tree.Cycle at)
+  returns : IsTrue around.returns → Simple around at Statement-F.Return (tree.Return at)
 
 module _ (mode : Mode) where
   mutual
@@ -72,46 +74,46 @@ module _ (mode : Mode) where
       more : {around : Inside} {forms next rest : List Form} {s : Stmt} {ss : List Stmt} → One around forms s next → Body around next ss rest → Body around forms (s ∷ ss) rest
 
     pub data One : Inside → List Form → Stmt → List Form → Type 0 where
-      simple : {around : Inside} {at : Place} {said : Statement} {s : Stmt} {rest : List Form} → Simple around at said s → One around (Says at said ∷ rest) s rest
+      simple : {around : Inside} {at : Place} {said : Statement-F Statement} {s : Stmt} {rest : List Form} → Simple around at said s → One around (Says at said ∷ rest) s rest
       -- `parallelize forward` directly before a CALL
       forwarded : {around : Inside} {d : Directive} {at : Place} {name : Named} {args : List Sub} {rest : List Form} → IsTrue (is_forward mode d.word) →
-          One around (Directs d ∷ Says at (form.Call name args) ∷ rest) (tree.Call at name args true) rest
+          One around (Directs d ∷ Says at (Statement-F.Call name args) ∷ rest) (tree.Call at name args true) rest
       -- an IF on one line is an IF with one arm, whose block is the action
-      if_action : {around : Inside} {at place : Place} {test : Expr} {action : Statement} {s : Stmt} {rest : List Form} → Simple around place action s →
-          One around (Says at (form.IfAction test place action) ∷ rest) (tree.If at (arm test (s ∷ []) ∷ []) None) rest
+      if_action : {around : Inside} {at place : Place} {test : Expr} {action : Statement} {s : Stmt} {rest : List Form} → Simple around place (out-Statement action) s →
+          One around (Says at (Statement-F.IfAction test place action) ∷ rest) (tree.If at (arm test (s ∷ []) ∷ []) None) rest
       if_then : {around : Inside} {at : Place} {test : Expr} {body : List Stmt} {arms : List Arm} {other : Option (List Stmt)} {inside next rest : List Form} →
           Body around inside body next → Arms around next arms other rest →
-          One around (Says at (form.IfThen test) ∷ inside) (tree.If at (arm test body ∷ arms) other) rest
+          One around (Says at (Statement-F.IfThen test) ∷ inside) (tree.If at (arm test body ∷ arms) other) rest
       selects : {around : Inside} {at : Place} {on : Expr} {cases : List Case} {other : Option (List Stmt)} {inside rest : List Form} → Cases around inside cases other rest →
-          One around (Says at (form.Select on) ∷ inside) (tree.Select at on cases other) rest
-      loops : {around : Inside} {at end : Place} {head : Head} {body : List Stmt} {inside rest : List Form} → Body (in_loop around) inside body (Says end form.EndDo ∷ rest) →
-          One around (Says at (form.Do head) ∷ inside) (tree.Loop at head body None) rest
+          One around (Says at (Statement-F.Select on) ∷ inside) (tree.Select at on cases other) rest
+      loops : {around : Inside} {at end : Place} {head : Head} {body : List Stmt} {inside rest : List Form} → Body (in_loop around) inside body (Says end Statement-F.EndDo ∷ rest) →
+          One around (Says at (Statement-F.Do head) ∷ inside) (tree.Loop at head body None) rest
       -- one directive or mark directly before a DO
       directed : {around : Inside} {d : Directive} {at end : Place} {head : Head} {body : List Stmt} {inside rest : List Form} → IsTrue (is_before_loop mode d.word) →
-          Body (in_loop_under (is_loop_mark d.word) around) inside body (Says end form.EndDo ∷ rest) →
-          One around (Directs d ∷ Says at (form.Do head) ∷ inside) (tree.Loop at head body (Some d)) rest
+          Body (in_loop_under (is_loop_mark d.word) around) inside body (Says end Statement-F.EndDo ∷ rest) →
+          One around (Directs d ∷ Says at (Statement-F.Do head) ∷ inside) (tree.Loop at head body (Some d)) rest
       -- statements of one list between a block's two lines
-      block : {around : Inside} {d end : Directive} {body : List Stmt} {inside rest : List Form} → IsTrue (is_block mode d.word end.word) → Body around inside body (Directs end ∷ rest) →
+      block : {around : Inside} {d end : Directive} {body : List Stmt} {inside rest : List Form} → IsTrue (begins_block mode d.word) → IsTrue (ends_block d.word end.word) → Body around inside body (Directs end ∷ rest) →
           One around (Directs d ∷ inside) (tree.Block d.at d body) rest
 
     -- what follows the first block of an IF, with its END IF
     pub data Arms : Inside → List Form → List Arm → Option (List Stmt) → List Form → Type 0 where
-      end_if : {around : Inside} {at : Place} {rest : List Form} → Arms around (Says at form.EndIf ∷ rest) [] None rest
-      else_last : {around : Inside} {at end : Place} {body : List Stmt} {inside rest : List Form} → Body around inside body (Says end form.EndIf ∷ rest) →
-          Arms around (Says at form.Else ∷ inside) [] (Some body) rest
+      end_if : {around : Inside} {at : Place} {rest : List Form} → Arms around (Says at Statement-F.EndIf ∷ rest) [] None rest
+      else_last : {around : Inside} {at end : Place} {body : List Stmt} {inside rest : List Form} → Body around inside body (Says end Statement-F.EndIf ∷ rest) →
+          Arms around (Says at Statement-F.Else ∷ inside) [] (Some body) rest
       else_if : {around : Inside} {at : Place} {test : Expr} {body : List Stmt} {arms : List Arm} {other : Option (List Stmt)} {inside next rest : List Form} →
           Body around inside body next → Arms around next arms other rest →
-          Arms around (Says at (form.ElseIf test) ∷ inside) (arm test body ∷ arms) other rest
+          Arms around (Says at (Statement-F.ElseIf test) ∷ inside) (arm test body ∷ arms) other rest
 
     -- The cases of a SELECT, with its END SELECT: none or more. CASE DEFAULT stands once at most, and anywhere among them.
     pub data Cases : Inside → List Form → List Case → Option (List Stmt) → List Form → Type 0 where
-      end_select : {around : Inside} {at : Place} {rest : List Form} → Cases around (Says at form.EndSelect ∷ rest) [] None rest
+      end_select : {around : Inside} {at : Place} {rest : List Form} → Cases around (Says at Statement-F.EndSelect ∷ rest) [] None rest
       case_of : {around : Inside} {at : Place} {ranges : List Range} {body : List Stmt} {cases : List Case} {other : Option (List Stmt)} {inside next rest : List Form} →
-          Body around inside body next → Cases around next cases other rest →
-          Cases around (Says at (form.Case ranges) ∷ inside) (case ranges body ∷ cases) other rest
+          IsTrue (list_all is_range ranges) → Body around inside body next → Cases around next cases other rest →
+          Cases around (Says at (Statement-F.Case ranges) ∷ inside) (case ranges body ∷ cases) other rest
       default : {around : Inside} {at : Place} {body : List Stmt} {cases : List Case} {inside next rest : List Form} →
           Body around inside body next → Cases around next cases None rest →
-          Cases around (Says at form.CaseDefault ∷ inside) cases (Some body) rest
+          Cases around (Says at Statement-F.CaseDefault ∷ inside) cases (Some body) rest
 
   -- Before the first statement
 
@@ -123,20 +125,20 @@ module _ (mode : Mode) where
   pub data Uses : List Form → List Use → List Directive → List Form → Type 0 where
     no_more_uses : {rest : List Form} → Uses rest [] [] rest
     uses : {at : Place} {line : Use} {lines : List Use} {marks : List Directive} {forms rest : List Form} → Uses forms lines marks rest →
-        Uses (Says at (form.Using line) ∷ forms) (line ∷ lines) marks rest
+        Uses (Says at (Statement-F.Using line) ∷ forms) (line ∷ lines) marks rest
     directs_use : {d : Directive} {lines : List Use} {marks : List Directive} {forms rest : List Form} → IsHeadDirective d → Uses forms lines marks rest →
         Uses (Directs d ∷ forms) lines (d ∷ marks) rest
 
   -- IMPLICIT NONE, once or not at all
   pub data Implicit : List Form → List Form → Type 0 where
     unsaid : {rest : List Form} → Implicit rest rest
-    said : {at : Place} {rest : List Form} → Implicit (Says at form.ImplicitNone ∷ rest) rest
+    said : {at : Place} {rest : List Form} → Implicit (Says at Statement-F.ImplicitNone ∷ rest) rest
 
   -- declarations, a line of which may declare several names, with the directives among them
   pub data Declares : List Form → List Decl → List Directive → List Form → Type 0 where
     no_more_decls : {rest : List Form} → Declares rest [] [] rest
-    declares : {at : Place} {line decls : List Decl} {marks : List Directive} {forms rest : List Form} → Declares forms decls marks rest →
-        Declares (Says at (form.Declare line) ∷ forms) (line ++ decls) marks rest
+    declares : {at : Place} {line decls : List Decl} {marks : List Directive} {forms rest : List Form} → IsTrue (list_all is_entity line) → Declares forms decls marks rest →
+        Declares (Says at (Statement-F.Declare line) ∷ forms) (line ++ decls) marks rest
     directs_decl : {d : Directive} {decls : List Decl} {marks : List Directive} {forms rest : List Form} → IsHeadDirective d → Declares forms decls marks rest →
         Declares (Directs d ∷ forms) decls (d ∷ marks) rest
 
@@ -168,9 +170,9 @@ module _ (mode : Mode) where
 
   -- An END of a unit or a module: bare, or with its word, and behind the word its name. It stands in the file of the header.
   pub data Ends (word : EndWord) (name : List ℕ) (header : Place) : Form → Type 0 where
-    bare : {at : Place} → at.file ≡ header.file → Ends word name header (Says at (form.End None None))
-    with_word : {at : Place} → at.file ≡ header.file → Ends word name header (Says at (form.End (Some word) None))
-    with_name : {at : Place} → at.file ≡ header.file → Ends word name header (Says at (form.End (Some word) (Some name)))
+    bare : {at : Place} → at.file ≡ header.file → Ends word name header (Says at (Statement-F.End None None))
+    with_word : {at : Place} → at.file ≡ header.file → Ends word name header (Says at (Statement-F.End (Some word) None))
+    with_name : {at : Place} → at.file ≡ header.file → Ends word name header (Says at (Statement-F.End (Some word) (Some name)))
 
   -- the name of a function's result: where RESULT is absent that of the function
   abbrev pub result_or_name : Named → Option Named → Named
@@ -187,12 +189,12 @@ module _ (mode : Mode) where
     subroutine : {at : Place} {name : Named} {dummies : List Named} {lines : List Use} {decls : List Decl} {pair mark : List Directive} {body : List Stmt}
         {head inside rest : List Form} {end : Form} →
         Head-part head lines decls pair mark inside → Paired pair → Body in_unit inside body (end ∷ rest) → Ends word.Subroutine name.name at end →
-        IsUnit host (Says at (form.Subroutine name dummies) ∷ head)
+        IsUnit host (Says at (Statement-F.Subroutine name dummies) ∷ head)
         (record { name = name.name; at = name.at; dummies = dummies; result = None; uses = lines; decls = decls; marks = pair ++ mark; body = body; host = host }) rest
     function : {at : Place} {prefix : Option (Kind × Place)} {name : Named} {dummies : List Named} {result : Option Named} {lines : List Use} {decls : List Decl} {mark : List Directive} {body : List Stmt}
         {head inside rest : List Form} {end : Form} →
         Head-part head lines decls [] mark inside → Body in_unit inside body (end ∷ rest) → Ends word.Function name.name at end →
-        IsUnit host (Says at (form.Function prefix name dummies result) ∷ head)
+        IsUnit host (Says at (Statement-F.Function prefix name dummies result) ∷ head)
         (record {
           name = name.name;
           at = name.at;
@@ -212,13 +214,13 @@ module _ (mode : Mode) where
   -- CONTAINS and the units of a module, or neither; CONTAINS may be followed by none
   pub data Contained (number : ℕ) : List Form → List unit.Unit → List Form → Type 0 where
     contains_none : {rest : List Form} → Contained number rest [] rest
-    contains : {at : Place} {forms rest : List Form} {us : List unit.Unit} → AreUnits (Some number) forms us rest → Contained number (Says at form.Contains ∷ forms) us rest
+    contains : {at : Place} {forms rest : List Form} {us : List unit.Unit} → AreUnits (Some number) forms us rest → Contained number (Says at Statement-F.Contains ∷ forms) us rest
 
   -- a module, its number and its units
   pub data IsModule (number : ℕ) : List Form → Module → List unit.Unit → List Form → Type 0 where
     a_module : {at : Place} {name : Named} {lines : List Use} {decls : List Decl} {us : List unit.Unit} {head inside rest : List Form} {end : Form} →
         Head-part head lines decls [] [] inside → Contained number inside us (end ∷ rest) → Ends word.Module name.name at end →
-        IsModule number (Says at (form.Module name) ∷ head) (record { name = name.name; at = name.at; uses = lines; decls = decls }) us rest
+        IsModule number (Says at (Statement-F.Module name) ∷ head) (record { name = name.name; at = name.at; uses = lines; decls = decls }) us rest
 
   -- The top level. Modules and units are numbered in the order of the text, those before these forms being so many.
   pub data Nests_from : ℕ → ℕ → List Form → List Module → List unit.Unit → List Item → Type 0 where
