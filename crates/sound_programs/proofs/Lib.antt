@@ -1,0 +1,6 @@
+pub mod RoundTrip
+pub mod OnFiles
+pub mod NestingOfSound
+pub mod BareTrees
+pub mod Chains
+pub mod SoundLaws
