@@ -1,0 +1,5 @@
+pub mod Rows
+pub mod Joined
+pub mod Lines
+pub mod Machine
+pub mod Examples
