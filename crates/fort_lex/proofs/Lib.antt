@@ -1,3 +1,5 @@
 mod Noting
 mod Stating
 mod Directing
+mod Firsts
+pub mod Passing

@@ -1,6 +1,6 @@
 -- The logical lines of a text, and its text faults.
-use Rattle.std.specs.Prelude.{ℕ, ◌≡◌, ◌≢◌, Bool, false, true, cond, ◌==◌, ◌&&◌, ◌||◌, nat_lt, List, [], ◌∷◌, ◌++◌, map, drop, take_while, Contains, All, Option, None, Some, is_some}
-use Rattle.std.specs.List.{prefix_len}
+use Rattle.std.specs.Prelude.{ℕ, ◌≡◌, Bool, false, true, cond, ◌==◌, ◌&&◌, ◌||◌, not, nat_lt, List, [], ◌∷◌, ◌++◌, map, drop, take_while, Option, None, Some, is_some}
+use Rattle.std.specs.List.{prefix_len, list_all}
 use Rattle.fort_tree.specs.declared.place.Place.{Place}
 use Rattle.fort_tree.specs.declared.choice.Mode.{Mode}
 use Rattle.fort_tree.specs.declared.statement.Line.{Line}
@@ -111,8 +111,10 @@ pub record HasLines (file : ℕ) (mode : Mode) (text : List ℕ) (lines : List W
 
 -- the fault is one of them, and none of them comes before it
 pub record IsFirst (first : Fault) (faults : List Fault) : Type 0 where
-  pub is_one : Contains faults first
-  pub is_least : All (λ f. comes_before f first ≡ false) faults
+  pub front : List Fault
+  pub back : List Fault
+  pub is_one : faults ≡ front ++ first ∷ back
+  pub is_least : list_all (λ other. not (comes_before other first)) faults ≡ true
 
 -- the text has no fault, and these are its lines
 abbrev pub AreLines : ℕ → Mode → List ℕ → List Written → Type 0
