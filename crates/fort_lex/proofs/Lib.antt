@@ -3,3 +3,5 @@ mod Stating
 mod Directing
 mod Firsts
 pub mod Passing
+mod Marking
+mod Placing

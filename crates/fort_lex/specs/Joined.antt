@@ -1,5 +1,5 @@
 -- Continued lines.
-use Rattle.std.specs.Prelude.{ℕ, Bool, false, true, cond, ◌==◌, ◌&&◌, not, ◌||◌, List, [], ◌∷◌, ◌++◌, Option, None, Some}
+use Rattle.std.specs.Prelude.{ℕ, Bool, false, true, cond, ◌==◌, ◌&&◌, not, ◌||◌, List, [], ◌∷◌, ◌++◌, length, drop, position, Option, None, Some, unwrap_or}
 use Rattle.std.specs.List.{list_all}
 use Rattle.fort_tree.specs.declared.place.Place.{Place}
 use Rattle.fort_tokens.specs.declared.character.Char.{Char}
@@ -30,11 +30,18 @@ mark_off (c ∷ line) = cond (is_mark c && all_blank line) (record { text = []; 
 abbrev pub blank_at : Place → Char
 blank_at at = record { byte = 32; at = at }
 
+-- a line without the blanks that it begins with
+abbrev pub without_blanks : List Char → List Char
+without_blanks line = drop (unwrap_or (position (λ c. not (is_blank c)) line) (length line)) line
+
 -- What a line gives that continues another: what is behind its first `&`, if it begins with one and more follows; else a blank and then its text. A last `&` is kept, an `&`
 -- alone too.
+abbrev pub continuing_at : List Char → List Char
+continuing_at [] = []
+continuing_at (c ∷ line) = cond (is_mark c) (cond (all_blank line) (c ∷ []) line) (blank_at c.at ∷ c ∷ line)
+
 abbrev pub continuing : List Char → List Char
-continuing [] = []
-continuing (c ∷ line) = cond (is_blank c) (continuing line) (cond (is_mark c) (cond (all_blank line) (c ∷ []) line) (blank_at c.at ∷ c ∷ line))
+continuing line = continuing_at (without_blanks line)
 
 -- what a line gives to a text that goes on after the `&` at a place: nothing if the line is blank, and the text still goes on
 abbrev pub next_part : Place → List Char → Part

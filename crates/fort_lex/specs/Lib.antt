@@ -2,4 +2,5 @@ pub mod Rows
 pub mod Joined
 pub mod Lines
 pub mod Machine
+pub mod Shown
 pub mod Examples

@@ -1,6 +1,5 @@
 -- Physical lines: where they end, what sentinel they begin with, and what stands outside comments.
-use Rattle.std.specs.Prelude.{ℕ, ◌+◌, Bool, false, true, cond, ◌==◌, ◌&&◌, ◌||◌, not, nat_lt, List, [], ◌∷◌, ◌++◌, length, take, drop, map, codes, bytes_eq, Option, None, Some}
-use Rattle.std.specs.List.{prefix_len, before_first}
+use Rattle.std.specs.Prelude.{ℕ, ◌+◌, ◌-◌, Bool, false, true, cond, ◌==◌, ◌&&◌, ◌||◌, not, nat_lt, List, [], ◌∷◌, ◌++◌, length, take, drop, slice_index, position, codes, bytes_eq, Option, None, Some, unwrap_or}
 use Rattle.fort_tree.specs.Name.{lowercase}
 use Rattle.fort_tree.specs.declared.place.Place.{Place}
 use Rattle.fort_tree.specs.declared.fault.Fault.{Fault}
@@ -12,9 +11,7 @@ use Rattle.fort_lex.specs.declared.sentinel.Sentinel.TheVariants.{Claw, Omp, Acc
 
 -- a line without a CR at its end
 abbrev pub without_return : List ℕ → List ℕ
-without_return [] = []
-without_return (b ∷ []) = cond (b == 13) [] (b ∷ [])
-without_return (b ∷ c ∷ line) = b ∷ without_return (c ∷ line)
+without_return line = cond (slice_index line (length line - 1) == 13) (take (length line - 1) line) line
 
 -- The lines of a text: LF ends a line, and a CR before it is dropped. What stands behind the last LF is a line too. `front` stands before the text.
 abbrev pub lines_from : List ℕ → List ℕ → List (List ℕ)
@@ -28,18 +25,15 @@ physical text = lines_from [] text
 abbrev pub is_gap : ℕ → Bool
 is_gap b = b == 32 || b == 9
 
-abbrev pub begins_with_gap : List ℕ → Bool
-begins_with_gap [] = false
-begins_with_gap (b ∷ bytes) = is_gap b
-
 abbrev pub word_of_sentinel : Sentinel → List ℕ
 word_of_sentinel Claw = codes "!$claw"
 word_of_sentinel Omp = codes "!$omp"
 word_of_sentinel Acc = codes "!$acc"
 
--- the sentinel stands at the front, in any case, and a blank behind it
+-- the word stands at the front, in any case, and a blank behind it
 abbrev pub begins_with_word : List ℕ → List ℕ → Bool
-begins_with_word word line = bytes_eq (lowercase (take (length word) line)) word && begins_with_gap (drop (length word) line)
+begins_with_word word line =
+    nat_lt (length word) (length line) && (is_gap (slice_index line (length word)) && bytes_eq (lowercase (take (length word) line)) (lowercase word))
 
 abbrev pub sentinel_at_front : List ℕ → Option Sentinel
 sentinel_at_front line =
@@ -49,7 +43,7 @@ sentinel_at_front line =
 
 -- how many blanks a line begins with
 abbrev pub indent : List ℕ → ℕ
-indent line = prefix_len is_gap line
+indent line = unwrap_or (position (λ b. not (is_gap b)) line) (length line)
 
 -- the sentinel of a directive or mark line
 abbrev pub sentinel_of : List ℕ → Option Sentinel
@@ -63,13 +57,13 @@ start_as (Some sentinel) line = indent line + length (word_of_sentinel sentinel)
 abbrev pub start : List ℕ → ℕ
 start line = start_as (sentinel_of line) line
 
--- what stands before a comment
-abbrev pub body : List ℕ → List ℕ
-body bytes = before_first (λ b. b == 33) bytes
+-- where the comment begins, or the line ends
+abbrev pub comment_start : ℕ → List ℕ → ℕ
+comment_start from line = from + unwrap_or (position (λ b. b == 33) (drop from line)) (length line - from)
 
 -- a line without its comment
 abbrev pub code : List ℕ → List ℕ
-code line = take (start line) line ++ body (drop (start line) line)
+code line = take (comment_start (start line) line) line
 
 abbrev pub place : ℕ → ℕ → ℕ → Place
 place f n k = record { file = f; line = n; column = k }
@@ -90,9 +84,8 @@ pub data Row : Type 0 where
   directive : Sentinel → Place → List Char → Row
 
 abbrev pub row_as : Option Sentinel → ℕ → ℕ → List ℕ → Row
-row_as None f n line = statement (placed f n 1 (body line))
-row_as (Some sentinel) f n line =
-    directive sentinel (place f n (indent line + 1)) (placed f n (start_as (Some sentinel) line + 1) (body (drop (start_as (Some sentinel) line) line)))
+row_as None f n line = statement (placed f n (start line + 1) (drop (start line) (code line)))
+row_as (Some sentinel) f n line = directive sentinel (place f n (indent line + 1)) (placed f n (start line + 1) (drop (start line) (code line)))
 
 abbrev pub row : ℕ → ℕ → List ℕ → Row
 row f n line = row_as (sentinel_of line) f n line
