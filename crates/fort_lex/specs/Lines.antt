@@ -1,6 +1,6 @@
 -- The logical lines of a text, and its text faults.
-use Rattle.std.specs.Prelude.{ℕ, ◌≡◌, Bool, false, true, cond, ◌==◌, ◌&&◌, ◌||◌, not, nat_lt, List, [], ◌∷◌, ◌++◌, map, drop, take_while, Option, None, Some, is_some}
-use Rattle.std.specs.List.{prefix_len, list_all}
+use Rattle.std.specs.Prelude.{ℕ, ◌≡◌, Bool, false, true, cond, ◌==◌, ◌&&◌, ◌||◌, not, nat_lt, List, [], ◌∷◌, ◌++◌, map, Option, None, Some, is_some}
+use Rattle.std.specs.List.{list_all}
 use Rattle.fort_tree.specs.declared.place.Place.{Place}
 use Rattle.fort_tree.specs.declared.choice.Mode.{Mode}
 use Rattle.fort_tree.specs.declared.statement.Line.{Line}
@@ -87,12 +87,23 @@ pub data DirectiveLines (mode : Mode) : Option Place → List Row → List Writt
 abbrev pub is_before : Place → Place → Bool
 is_before p q = nat_lt p.line q.line || (p.line == q.line && nat_lt p.column q.column)
 
+-- the lines at the front that stand before a place, and the others
+abbrev pub lines_before : Place → List Written → List Written
+lines_before at [] = []
+lines_before at (line ∷ lines) = cond (is_before line.at at) (line ∷ lines_before at lines) []
+
+abbrev pub lines_behind : Place → List Written → List Written
+lines_behind at [] = []
+lines_behind at (line ∷ lines) = cond (is_before line.at at) (lines_behind at lines) (line ∷ lines)
+
+abbrev pub begins_before : Place → List Written → Bool
+begins_before at [] = false
+begins_before at (line ∷ lines) = is_before line.at at
+
 -- statements and directive lines in the order of their first tokens
 abbrev pub in_order : List Written → List Written → List Written
 in_order [] directives = directives
-in_order (line ∷ statements) directives =
-    let first = λ (other : Written). is_before other.at line.at in
-    take_while first directives ++ line ∷ in_order statements (drop (prefix_len first directives) directives)
+in_order (line ∷ statements) directives = lines_before line.at directives ++ line ∷ in_order statements (lines_behind line.at directives)
 
 -- the fault comes before the other: it has a lesser place, or the same and a smaller code
 abbrev pub comes_before : Fault → Fault → Bool

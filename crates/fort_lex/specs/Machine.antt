@@ -150,12 +150,18 @@ abbrev pub lines_taken : ℕ → Mode → ℕ → PassState → List (List ℕ) 
 lines_taken f mode n p [] = p
 lines_taken f mode n p (line ∷ lines) = lines_taken f mode (n + 1) (line_taken f mode n p line) lines
 
+abbrev pub new_statements : StatementState
+new_statements = record { reading = fresh; lines = []; fault = None }
+
+abbrev pub new_directives : DirectiveState
+new_directives = record { reading = fresh; waiting = []; lines = []; fault = None }
+
 abbrev pub new_pass : PassState
 new_pass = record {
   after = None;
   unended = None;
-  statements = record { reading = fresh; lines = []; fault = None };
-  directives = record { reading = fresh; waiting = []; lines = []; fault = None };
+  statements = new_statements;
+  directives = new_directives;
   fault = None;
 }
 

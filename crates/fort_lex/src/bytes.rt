@@ -1,6 +1,6 @@
 //! Physical lines.
 ghost use Rattle.std.specs.Prelude.{◌≡◌, ◌+◌, ◌≤◌, ◌<◌, ◌==◌, length, position, IfOk};
-ghost use Rattle.fort_lex.specs.Rows.{without_return as without_return_of, comment_start as comment_start_of, placed as placed_bytes, blanked as blanked_byte, is_bad as is_bad_byte, bad_bytes, too_long, code as code_of};
+ghost use Rattle.fort_lex.specs.Rows.{without_return as without_return_of, comment_start as comment_start_of, placed as placed_bytes, blanked as blanked_byte, is_bad as is_bad_byte, bad_bytes, too_long, code as code_of, start};
 ghost use Rattle.fort_lex.specs.Machine.{noted};
 
 use crate::sentinel::text_start;
@@ -38,6 +38,8 @@ fn comment_start(line: &[u8], from: usize) -> usize
 /// A physical line without its comment.
 pub fn code(line: &[u8]) -> &[u8]
     ensures value { result.now ≡ code_of line.now }
+    ensures low { start line.now ≤ length result.now }
+    ensures within { length result.now ≤ length line.now }
 {
     &line[..comment_start(line, text_start(line))]
 }

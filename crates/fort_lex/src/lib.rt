@@ -4,12 +4,18 @@
 mod bytes;
 mod directives;
 mod faults;
+mod merging;
 mod part;
+mod pass;
 mod sentinel;
+mod statements;
 
-pub use directives::Unended;
+pub use bytes::{code, note_bad_bytes, note_length, placed, without_return};
+pub use directives::{Directives, Unended};
 pub use faults::{earlier, is_before, token_fault};
 pub use fort_tokens::Char;
-pub use sentinel::Sentinel;
-pub use bytes::{code, note_bad_bytes, note_length, placed, without_return};
+pub use merging::in_order;
 pub use part::{Part, all_blank, continued, mark_off, next_part};
+pub use pass::Pass;
+pub use sentinel::Sentinel;
+pub use statements::Statements;
