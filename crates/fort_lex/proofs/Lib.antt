@@ -5,3 +5,4 @@ mod Firsts
 pub mod Passing
 mod Marking
 mod Placing
+mod Lining

@@ -83,12 +83,12 @@ pub data Row : Type 0 where
   statement : List Char → Row
   directive : Sentinel → Place → List Char → Row
 
-abbrev pub row_as : Option Sentinel → ℕ → ℕ → List ℕ → Row
-row_as None f n line = statement (placed f n (start line + 1) (drop (start line) (code line)))
-row_as (Some sentinel) f n line = directive sentinel (place f n (indent line + 1)) (placed f n (start line + 1) (drop (start line) (code line)))
+abbrev pub row_as : Option Sentinel → Place → List Char → Row
+row_as None at text = statement text
+row_as (Some sentinel) at text = directive sentinel at text
 
 abbrev pub row : ℕ → ℕ → List ℕ → Row
-row f n line = row_as (sentinel_of line) f n line
+row f n line = row_as (sentinel_of line) (place f n (indent line + 1)) (placed f n (start line + 1) (drop (start line) (code line)))
 
 -- the rows of lines, the first with number n
 abbrev pub rows : ℕ → ℕ → List (List ℕ) → List Row

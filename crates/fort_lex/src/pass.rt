@@ -1,6 +1,6 @@
 //! The way over the lines of a text.
 ghost use Rattle.std.specs.Prelude.{◌≡◌, ◌≤◌, ◌+◌, ◌<◌, ◌^◌, OnOk, IfOk, None, length};
-ghost use Rattle.fort_lex.specs.Rows.{statement, directive};
+ghost use Rattle.fort_lex.specs.Rows.{statement, directive, row_as};
 ghost use Rattle.fort_lex.specs.Machine.{new_pass, row_taken, line_taken, text_ended, gone_over, first_fault as first_fault_of, left, begun};
 ghost use Rattle.fort_lex.specs.Shown.{shown_pass, shown_statements, shown_directives, shown_part};
 
@@ -114,6 +114,23 @@ impl Pass {
         self.go_on(alloc, mode, sentinel, at, mark_off(line))
     }
 
+    /// Takes a line's characters without its comment, which stand behind a sentinel at a place if it has one.
+    fn take_row(
+        &mut self,
+        alloc: Global,
+        mode: Mode,
+        sentinel: Option<Sentinel>,
+        at: Place,
+        text: &[Char],
+    ) -> Result<(), NoMemory>
+        ensures { OnOk result (shown_pass self.new ≡ row_taken mode (shown_pass self.old) (row_as sentinel at text.now)) }
+    {
+        match sentinel {
+            None => self.take_statement(alloc, mode, text),
+            Some(sentinel) => self.take_directive(alloc, mode, sentinel, at, text),
+        }
+    }
+
     fn take_line(
         &mut self,
         alloc: Global,
@@ -130,17 +147,12 @@ impl Pass {
         let fault = note_bad_bytes(self.fault, file, number, code);
         self.fault = note_length(fault, file, number, code);
         let text = placed(alloc, file, number, start as u32, &code[start..])?;
-        match sentinel_of(line) {
-            None => self.take_statement(alloc, mode, text.items()),
-            Some(sentinel) => {
-                let at = Place {
-                    file,
-                    line: number,
-                    column: indent(line) as u32 + 1,
-                };
-                self.take_directive(alloc, mode, sentinel, at, text.items())
-            }
-        }
+        let at = Place {
+            file,
+            line: number,
+            column: indent(line) as u32 + 1,
+        };
+        self.take_row(alloc, mode, sentinel_of(line), at, text.items())
     }
 
     fn end(&mut self, alloc: Global, mode: Mode) -> Result<(), NoMemory>
