@@ -1,5 +1,5 @@
 -- Small lines and their tokens.
-use Rattle.std.specs.Prelude.{ℕ, ◌+◌, List, [], ◌∷◌, Option, None, Some, map, codes, option_map}
+use Rattle.std.specs.Prelude.{ℕ, ◌+◌, List, [], ◌∷◌, Option, map, option_map}
 use Rattle.fort_tokens.specs.declared.character.Char.{Char}
 use Rattle.fort_tokens.specs.Machine.{fresh, fed_all, finished}
 

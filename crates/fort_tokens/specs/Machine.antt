@@ -6,12 +6,16 @@ use Rattle.fort_tokens.specs.declared.character.Char.{Char}
 use Rattle.fort_tokens.specs.declared.shape.Shape.{Shape}
 use Rattle.fort_tokens.specs.declared.shape.Shape.TheVariants as shape
 use Rattle.fort_tokens.specs.Texts.{is_name_byte, is_kind, is_begun, is_fixed, is_small, front}
-use Rattle.fort_tokens.specs.Reads.{Word, lowered}
+use Rattle.fort_tokens.specs.Reads.{lowered}
 use Rattle.fort_tokens.specs.Reading.{Reading}
 
--- the form of the text with one byte more, if a token can begin so
+-- the shape of a text of one byte, if a token can begin so
+abbrev pub first_shape : ℕ → Option Shape
+first_shape b = cond (is_ascii_lowercase b) (Some shape.Name) (cond (is_ascii_digit b) (Some shape.Digits) (cond (is_begun (b ∷ [])) (Some shape.Fixed) None))
+
+-- the shape of the text with one byte more, if a token can begin so
 abbrev pub goes_on : Shape → List ℕ → ℕ → Option Shape
-goes_on shape.Empty text b = cond (is_ascii_lowercase b) (Some shape.Name) (cond (is_ascii_digit b) (Some shape.Digits) (cond (is_begun (b ∷ [])) (Some shape.Fixed) None))
+goes_on shape.Empty text b = first_shape b
 goes_on shape.Name text b = cond (is_name_byte b) (Some shape.Name) None
 goes_on shape.Digits text b = cond (is_ascii_digit b) (Some shape.Digits) (cond (b == 95) (Some shape.Under) (cond (b == 46) (Some shape.Point) None))
 goes_on shape.Under text b = cond (is_kind b) (Some shape.Suffixed) None

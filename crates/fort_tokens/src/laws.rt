@@ -1,11 +1,12 @@
 //! Laws of the definitions. The functions do nothing; what they ensure holds of all lines and texts, or of the examples that are named.
-ghost use Rattle.std.specs.Prelude.{◌≡◌, ◌∷◌, [], List, Option, Some, None, ℕ, codes, replicate};
+ghost use Rattle.std.specs.Prelude.{◌≡◌, ◌∷◌, [], List, Option, Some, None, ℕ, true, is_some, codes, replicate};
 ghost use Rattle.fort_tree.specs.declared.place.Place.{Place};
 ghost use Rattle.fort_tokens.specs.declared.character.Char.{Char};
 ghost use Rattle.fort_tokens.specs.Automaton.{has_form, has_number_form};
 ghost use Rattle.fort_tokens.specs.Forms.{is_form, is_number_form};
 ghost use Rattle.fort_tokens.specs.Reads.{Reads, Word};
-ghost use Rattle.fort_tokens.specs.Machine.{fresh, fed_all, finished};
+ghost use Rattle.fort_tokens.specs.Reading.{Reading};
+ghost use Rattle.fort_tokens.specs.Machine.{fresh, fed, fed_all, finished};
 ghost use Rattle.fort_tokens.specs.Examples.{texts, bad_column};
 
 /// A line is read in one way: as one list of tokens, with one first bad place or none.
@@ -22,6 +23,17 @@ pub fn each_line_is_read()
 pub fn forms_are_the_automaton()
     ensures forms { (text : List ℕ) → has_form text ≡ is_form text }
     ensures numbers { (text : List ℕ) → has_number_form text ≡ is_number_form text }
+{}
+
+/// An ampersand that stands in a line is a bad token or stands behind one, and a reader with a bad token stays as it is.
+pub fn ampersand_is_bad()
+    ensures bad { (reading : Reading) (c : Char) → c.byte ≡ 38 → is_some (fed reading c).bad ≡ true }
+    ensures stays { (reading : Reading) (c : Char) → is_some reading.bad ≡ true → fed reading c ≡ reading }
+{}
+
+/// Two blanks are as one.
+pub fn second_blank_changes_nothing()
+    ensures { (reading : Reading) (first second : Char) → first.byte ≡ 32 → second.byte ≡ 32 → fed (fed reading first) second ≡ fed reading first }
 {}
 
 /// Lines as they are read, the longest token taken first.

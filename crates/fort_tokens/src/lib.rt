@@ -9,8 +9,11 @@ mod words;
 
 pub use character::Char;
 pub use laws::{
-    each_line_is_read,
-    forms_are_the_automaton, lines_by_example, reading_is_unique, too_long_and_too_large,
+    ampersand_is_bad, each_line_is_read, forms_are_the_automaton, lines_by_example,
+    reading_is_unique, second_blank_changes_nothing, too_long_and_too_large,
 };
 pub use reader::{Reader, tokens};
 pub use shape::Shape;
+
+#[cfg(test)]
+mod tests;

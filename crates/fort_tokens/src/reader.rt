@@ -2,7 +2,7 @@
 ghost use Rattle.std.specs.Prelude.{◌≡◌, ◌↔◌, [], ◌∷◌, ◌++◌, map, OnOk, IfOk, None, Some, IsTrue};
 ghost use Rattle.fort_tree.specs.Token.{is_token};
 ghost use Rattle.fort_tokens.specs.Texts.{front};
-ghost use Rattle.fort_tokens.specs.Reads.{Reads, word_of};
+ghost use Rattle.fort_tokens.specs.Reads.{Reads, word_of, lowered};
 ghost use Rattle.fort_tokens.specs.Machine.{goes_on as goes_on_as, fresh, grown, spoiled, emitted, split, settled, started, fed, closed, finished};
 
 use crate::shape::{goes_on, is_empty};
@@ -119,12 +119,10 @@ impl Reader {
         requires goes_on { goes_on_as self.old.shape self.old.text c.byte ≡ Some shape }
         ensures { OnOk result (self.new ≡ grown self.old shape c) }
     {
-        let first = is_empty(self.shape);
+        let first = if is_empty(self.shape) { c.at } else { self.at };
         self.text.push(c.byte)?;
-        if first {
-            self.at = c.at;
-        }
         self.shape = shape;
+        self.at = first;
         self.last = c.at;
         Ok(())
     }
@@ -151,10 +149,9 @@ impl Reader {
         requires { IsTrue (is_token (front self.old.text)) }
         ensures { OnOk result (self.new ≡ split self.old) }
     {
-        let mut text = std::mem::replace(&mut self.text, Seq::new(alloc));
+        let text = std::mem::replace(&mut self.text, Seq::new(alloc));
         self.shape = Shape::Empty;
-        let _ = text.pop();
-        self.tokens.push(Token::new(text, self.at))?;
+        self.tokens.push(Token::new(without_last(text), self.at))?;
         self.text.push(b'.')?;
         self.shape = Shape::Fixed;
         self.at = self.last;
@@ -235,6 +232,14 @@ impl Reader {
             self.spoil(self.at);
         }
     }
+}
+
+/// The text without its last byte.
+fn without_last(mut text: Seq<u8>) -> Seq<u8>
+    ensures { result ≡ front text }
+{
+    let _ = text.pop();
+    text
 }
 
 /// The character with an upper-case letter put into lower case.

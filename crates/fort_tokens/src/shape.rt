@@ -1,6 +1,6 @@
 //! What the characters that are no token yet look like.
 ghost use Rattle.std.specs.Prelude.{◌≡◌};
-ghost use Rattle.fort_tokens.specs.Machine.{goes_on as goes_on_as, is_empty as is_no_text};
+ghost use Rattle.fort_tokens.specs.Machine.{first_shape as first_shape_as, goes_on as goes_on_as, is_empty as is_no_text};
 
 use crate::words::{is_begun, is_kind, is_name_byte};
 
@@ -48,7 +48,7 @@ pub fn goes_on(shape: Shape, text: &[u8], byte: u8) -> Option<Shape>
 
 /// The shape of a text of one byte.
 fn first_shape(byte: u8) -> Option<Shape>
-    ensures { result ≡ goes_on_as Empty [] byte }
+    ensures { result ≡ first_shape_as byte }
 {
     if byte.is_ascii_lowercase() {
         Some(Shape::Name)
