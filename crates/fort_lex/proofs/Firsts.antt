@@ -9,6 +9,7 @@ use Rattle.fort_tree.specs.Code.{code_number}
 use Rattle.fort_tree.specs.declared.fault.Fault.{Fault}
 use Rattle.fort_lex.specs.Lines.{comes_before, IsFirst}
 use Rattle.fort_lex.specs.Machine.{earlier, noted}
+use Rattle.fort_lex.specs.Going.{FirstOf}
 
 -- by three numbers, the first counting most
 abbrev less : ℕ → ℕ → ℕ → ℕ → ℕ → ℕ → Bool
@@ -54,11 +55,6 @@ all-through f g [] h k = refl
 all-through f g (x ∷ xs) h k =
     let parts = and_parts (later g x) (list_all (later g) xs) k in
     both (later f x) (list_all (later f) xs) (ap not (not-through x g f (not-true (comes_before x g) parts.0) h)) (all-through f g xs h parts.1)
-
--- no fault, or the first
-abbrev pub FirstOf : Option Fault → List Fault → Type 0
-FirstOf None faults = faults ≡ []
-FirstOf (Some f) faults = IsFirst f faults
 
 alone : (f : Fault) → IsFirst f (f ∷ [])
 alone f = record { front = []; back = []; is_one = refl; is_least = both (later f f) true (ap not (not-self f)) refl }

@@ -6,3 +6,4 @@ pub mod Passing
 mod Marking
 mod Placing
 mod Lining
+mod Unique

@@ -6,10 +6,11 @@ use Rattle.fort_lex.specs.Rows.{Row, statement, directive, row, rows, physical, 
 use Rattle.fort_lex.specs.Joined.{statement_texts}
 use Rattle.fort_lex.specs.Lines.{Written, HasLines, in_order}
 use Rattle.fort_lex.specs.Machine.{noted, earlier, PassState, row_taken, bytes_noted, line_taken, lines_taken, new_pass, text_ended, gone_over, lines_of, first_fault}
+use Rattle.fort_lex.specs.Going.{FirstOf, Going}
 use Rattle.fort_lex.proofs.Noting.{noted-append}
 use Rattle.fort_lex.proofs.Stating.{EachIsRead, stated, states}
 use Rattle.fort_lex.proofs.Directing.{directed, directs}
-use Rattle.fort_lex.proofs.Firsts.{FirstOf, firsts, noted-first}
+use Rattle.fort_lex.proofs.Firsts.{firsts, noted-first}
 
 stated-row : (f : ℕ) (mode : Mode) (n : ℕ) (p : PassState) (r : Row) (lines : List (List ℕ)) →
     ((p : PassState) → (text_ended mode (lines_taken f mode n p lines)).statements ≡ stated mode p.after p.statements (statement_texts (rows f n lines))) →
@@ -48,12 +49,6 @@ noted-lines f mode n p (line ∷ lines) =
     ∙ sym (noted-append (noted p.fault bad) long others)
     ∙ sym (noted-append p.fault bad (long ++ others))
     ∙ ap (noted p.fault) (sym (append_assoc bad long others))
-
--- the lines and the faults of a text, and the first of them
-pub record Going (file : ℕ) (mode : Mode) (text : List ℕ) : Type 0 where
-  pub faults : List Fault
-  pub are : HasLines file mode text (lines_of (gone_over file mode text)) faults
-  pub is_first : FirstOf (first_fault (gone_over file mode text)) faults
 
 pub goes : EachIsRead → (file : ℕ) (mode : Mode) (text : List ℕ) → Going file mode text
 goes reads file mode text =

@@ -2,5 +2,6 @@ pub mod Rows
 pub mod Joined
 pub mod Lines
 pub mod Machine
+pub mod Going
 pub mod Shown
 pub mod Examples

@@ -4,7 +4,8 @@ ghost use Rattle.fort_lex.specs.Rows.{without_return as without_return_of, comme
 ghost use Rattle.fort_lex.specs.Machine.{noted};
 
 use crate::sentinel::text_start;
-use crate::{Char, earlier};
+use crate::faults::earlier;
+use fort_tokens::Char;
 use fort_tree::{Code, Fault, NoMemory, Place, Seq};
 use std::alloc::Global;
 

@@ -7,8 +7,10 @@ ghost use Rattle.fort_lex.specs.Lines.{written};
 ghost use Rattle.fort_lex.specs.Machine.{closed_directive, fed_directive, released, new_directives};
 ghost use Rattle.fort_lex.specs.Shown.{shown_directives, shown_part};
 
-use crate::{Char, Part, Sentinel, earlier, token_fault};
-use fort_tokens::Reader;
+use crate::faults::{earlier, token_fault};
+use crate::part::Part;
+use crate::sentinel::Sentinel;
+use fort_tokens::{Char, Reader};
 use fort_tree::{Fault, Line, Mode, NoMemory, Place, Seq, Token};
 use std::alloc::Global;
 use std::collections::VecDeque;

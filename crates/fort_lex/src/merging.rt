@@ -2,7 +2,7 @@
 ghost use Rattle.std.specs.Prelude.{◌≡◌, ◌++◌, ◌∷◌, [], true, IfSome, IfNone, OnOk, IfOk, map};
 ghost use Rattle.fort_lex.specs.Lines.{written, is_before as is_place_before, begins_before, lines_before, lines_behind, in_order as in_order_of};
 
-use crate::is_before;
+use crate::faults::is_before;
 use fort_tree::{Line, NoMemory, Place, Seq};
 use std::alloc::Global;
 use std::collections::VecDeque;

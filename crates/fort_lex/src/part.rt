@@ -4,7 +4,7 @@ ghost use Rattle.fort_lex.specs.Joined.{is_blank, all_blank as all_blank_of, mar
 ghost use Rattle.fort_lex.specs.Machine.{part as part_of};
 ghost use Rattle.fort_lex.specs.Shown.{shown_part, no_char};
 
-use crate::Char;
+use fort_tokens::Char;
 use fort_tree::Place;
 
 /// A text, the blank before it if there is one, and the place of the `&` that it goes on after.

@@ -6,10 +6,11 @@ ghost use Rattle.fort_lex.specs.Shown.{shown_pass, shown_statements, shown_direc
 
 use crate::bytes::{code, note_bad_bytes, note_length, placed, without_return};
 use crate::directives::{Directives, Unended};
-use crate::part::{all_blank, continued, mark_off, next_part};
-use crate::sentinel::{indent, sentinel_of, text_start};
+use crate::faults::earlier;
+use crate::part::{Part, all_blank, continued, mark_off, next_part};
+use crate::sentinel::{Sentinel, indent, sentinel_of, text_start};
 use crate::statements::Statements;
-use crate::{Char, Part, Sentinel, earlier};
+use fort_tokens::Char;
 use fort_tree::{Fault, Mode, NoMemory, Place};
 use std::alloc::Global;
 

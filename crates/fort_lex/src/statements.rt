@@ -5,8 +5,9 @@ ghost use Rattle.fort_lex.specs.Lines.{written, statement_line as line_of_statem
 ghost use Rattle.fort_lex.specs.Machine.{closed_statement, put as put_to, put_all as put_all_to, ended, new_statements};
 ghost use Rattle.fort_lex.specs.Shown.{shown_statements, shown_part};
 
-use crate::{Char, Part, earlier, token_fault};
-use fort_tokens::Reader;
+use crate::faults::{earlier, token_fault};
+use crate::part::Part;
+use fort_tokens::{Char, Reader};
 use fort_tree::{Fault, Line, Mode, NoMemory, Place, Seq, Token};
 use std::alloc::Global;
 

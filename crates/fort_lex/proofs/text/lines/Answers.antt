@@ -4,7 +4,7 @@ use Rattle.fort_tokens.proofs.Feeding.{reads}
 use Rattle.fort_lex.specs.Lines.{Written, written, HasLines, IsFirstTextFault}
 use Rattle.fort_lex.specs.Machine.{PassState, gone_over, lines_of, first_fault}
 use Rattle.fort_lex.specs.Shown.{shown_pass}
-use Rattle.fort_lex.proofs.Firsts.{FirstOf}
+use Rattle.fort_lex.specs.Going.{FirstOf}
 use Rattle.fort_lex.proofs.Passing.{goes}
 use Rattle.fort_lex.proofs.text.lines.Goals as goal
 
