@@ -156,7 +156,7 @@ begins reads mode after s at line rows waiting done first more =
     let r = finished (fed_all fresh g.text) in
     let m = more (waiting ++ directive_line mode s at r.words g.mark false ∷ []) (earlier first (token_fault r.bad)) in
     let over : directed mode after None (amid waiting done first) (directive s at line ∷ rows)
-        ≡ directed mode after None (amid (waiting ++ directive_line mode s at r.words g.mark false ∷ []) done (earlier first (token_fault r.bad))) g.rest =
+    ≡ directed mode after None (amid (waiting ++ directive_line mode s at r.words g.mark false ∷ []) done (earlier first (token_fault r.bad))) g.rest =
     groups mode after s at (amid waiting done first) (mark_off line).text (mark_off line).mark rows in
     let within : Bool = is_some after && has_text g.rest in
     record {

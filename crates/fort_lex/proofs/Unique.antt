@@ -99,8 +99,7 @@ pub lines-one : ReadsInOneWay → (file : ℕ) (mode : Mode) (text : List ℕ) (
 lines-one unique file mode text these those here there h k =
     let s = statements-one unique h.are_statements k.are_statements refl in
     let d = directives-one unique h.are_directives k.are_directives refl refl in
-    let bytes = byte_faults file 1 (physical text) in
-    (
-        h.are_lines ∙ ap (λ x. in_order x h.directives) s.0 ∙ ap (in_order k.statements) d.0 ∙ sym k.are_lines,
-        h.are_faults ∙ same-append (same-append {a = bytes} refl s.1) d.1 ∙ sym k.are_faults,
+    let bytes = byte_faults file 1 (physical text) in (
+      h.are_lines ∙ ap (λ x. in_order x h.directives) s.0 ∙ ap (in_order k.statements) d.0 ∙ sym k.are_lines,
+      h.are_faults ∙ same-append (same-append {a = bytes} refl s.1) d.1 ∙ sym k.are_faults,
     )

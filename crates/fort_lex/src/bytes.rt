@@ -3,8 +3,8 @@ ghost use Rattle.std.specs.Prelude.{◌≡◌, ◌+◌, ◌≤◌, ◌<◌, ◌=
 ghost use Rattle.fort_lex.specs.Rows.{without_return as without_return_of, comment_start as comment_start_of, placed as placed_bytes, blanked as blanked_byte, is_bad as is_bad_byte, bad_bytes, too_long, code as code_of, start};
 ghost use Rattle.fort_lex.specs.Machine.{noted};
 
-use crate::sentinel::text_start;
 use crate::faults::earlier;
+use crate::sentinel::text_start;
 use fort_tokens::Char;
 use fort_tree::{Code, Fault, NoMemory, Place, Seq};
 use std::alloc::Global;

@@ -16,7 +16,8 @@ fn comes_before(fault: Fault, other: Fault) -> bool
     ensures { result ≡ is_fault_before fault other }
 {
     is_before(fault.place, other.place)
-        || fault.place.line == other.place.line && fault.place.column == other.place.column
+        || fault.place.line == other.place.line
+            && fault.place.column == other.place.column
             && fault.code.number() < other.code.number()
 }
 

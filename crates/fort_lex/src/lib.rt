@@ -12,5 +12,10 @@ mod sentinel;
 mod statements;
 mod text;
 
-pub use laws::{each_text_is_gone_over, lines_are_unique, lines_or_a_fault};
+pub use laws::{
+    each_text_is_gone_over, faults_by_example, lines_are_unique, lines_by_example, lines_or_a_fault,
+};
 pub use text::lines;
+
+#[cfg(test)]
+mod tests;

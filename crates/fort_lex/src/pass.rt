@@ -57,12 +57,7 @@ impl Pass {
         Ok(())
     }
 
-    fn take_statement(
-        &mut self,
-        alloc: Global,
-        mode: Mode,
-        line: &[Char],
-    ) -> Result<(), NoMemory>
+    fn take_statement(&mut self, alloc: Global, mode: Mode, line: &[Char]) -> Result<(), NoMemory>
         ensures { OnOk result (shown_pass self.new ≡ row_taken mode (shown_pass self.old) (statement line.now)) }
     {
         self.leave(alloc, mode)?;

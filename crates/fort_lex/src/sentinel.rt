@@ -52,7 +52,8 @@ fn is_gap(byte: u8) -> bool
 fn begins_with_word(word: &[u8], line: &[u8]) -> bool
     ensures { result ≡ begins_with word.now line.now }
 {
-    line.len() > word.len() && is_gap(line[word.len()])
+    line.len() > word.len()
+        && is_gap(line[word.len()])
         && line[..word.len()].eq_ignore_ascii_case(word)
 }
 

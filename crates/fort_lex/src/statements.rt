@@ -49,12 +49,7 @@ impl Statements {
     ///
     /// # Errors
     /// `NoMemory` only where memory was refused. Nothing is said of the statements then.
-    pub fn close(
-        &mut self,
-        alloc: Global,
-        mode: Mode,
-        mark: Option<Place>,
-    ) -> Result<(), NoMemory>
+    pub fn close(&mut self, alloc: Global, mode: Mode, mark: Option<Place>) -> Result<(), NoMemory>
         ensures { OnOk result (shown_statements self.new ≡ closed_statement mode (shown_statements self.old) mark) }
     {
         self.reader.finish(alloc)?;

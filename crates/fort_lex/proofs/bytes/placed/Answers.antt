@@ -16,9 +16,11 @@ loop-byte-preserved c =
     let at : c.args.start + 1 + length (take i bytes) ≡ c.loop-byte.column + 1 = omega (arith, column, long) in
     let more = placed-more c.args.file c.args.line (c.args.start + 1) (take i bytes) (get_or bytes i 0) in
     let longer = take_more bytes i 0 c.loop-byte-test.true in
-    let with : List Char → ℕ → ℕ → List Char = λ chars b k. chars ++ record { byte = b; at = place c.args.file c.args.line k } ∷ [] in
-    (omega (arith, column), c.in_ok-push.ensures.ok
-        ∙ ap (λ b. with c.loop-byte.chars b (c.loop-byte.column + 1)) c.blanked.ensures
-        ∙ ap (with c.loop-byte.chars (blanked (get_or bytes i 0))) (sym at)
-        ∙ ap (λ x. with x (blanked (get_or bytes i 0)) (c.args.start + 1 + length (take i bytes))) so_far
-        ∙ sym more ∙ ap (placed c.args.file c.args.line (c.args.start + 1)) (sym longer))
+    let with : List Char → ℕ → ℕ → List Char = λ chars b k. chars ++ record { byte = b; at = place c.args.file c.args.line k } ∷ [] in (
+      omega (arith, column),
+      c.in_ok-push.ensures.ok
+          ∙ ap (λ b. with c.loop-byte.chars b (c.loop-byte.column + 1)) c.blanked.ensures
+          ∙ ap (with c.loop-byte.chars (blanked (get_or bytes i 0))) (sym at)
+          ∙ ap (λ x. with x (blanked (get_or bytes i 0)) (c.args.start + 1 + length (take i bytes))) so_far
+          ∙ sym more ∙ ap (placed c.args.file c.args.line (c.args.start + 1)) (sym longer),
+    )

@@ -29,7 +29,9 @@ returns-clause-ok c =
     ap first_fault (sym c.in_ok-pass.ensures) ∙ sym c.first_fault.ensures ∙ c.in_default.is in
     let none : g.faults ≡ [] = subst (λ o. FirstOf o g.faults) is g.is_first in
     let are : lines_of (gone_over c.args.file c.args.mode c.args.text.now) ≡ map written c.in_ok-lines.lines =
-    ap lines_of (sym c.in_ok-pass.ensures) ∙ sym c.in_ok-lines.ensures in
-    (c.in_ok-lines.lines, c.in_ok-append.ensures.ok,
-        subst (λ xs. HasLines c.args.file c.args.mode c.args.text.now xs []) are
-        (subst (HasLines c.args.file c.args.mode c.args.text.now (lines_of (gone_over c.args.file c.args.mode c.args.text.now))) none g.are))
+    ap lines_of (sym c.in_ok-pass.ensures) ∙ sym c.in_ok-lines.ensures in (
+      c.in_ok-lines.lines,
+      c.in_ok-append.ensures.ok,
+      subst (λ xs. HasLines c.args.file c.args.mode c.args.text.now xs []) are
+          (subst (HasLines c.args.file c.args.mode c.args.text.now (lines_of (gone_over c.args.file c.args.mode c.args.text.now))) none g.are),
+    )
