@@ -2,7 +2,7 @@
 use Rattle.std.proofs.Common.{◌≡◌, ℕ, zero, suc, ◌≤◌, Bool, true, false, cond, not, ◌&&◌, ◌||◌, List, [], ◌∷◌, ◌++◌, length, map, Option, None, Some, refl, sym, ap, ◌∙◌, subst, arith, append_assoc}
 use Rattle.std.specs.Prelude.{is_some}
 use Rattle.std.proofs.lemmas.List.{append-nil, map-append}
-use Rattle.std.proofs.lemmas.Bool.{true≢false, and_parts}
+use Rattle.std.proofs.lemmas.Bool.{and_parts}
 use Rattle.fort_tree.specs.declared.place.Place.{Place}
 use Rattle.fort_tree.specs.declared.choice.Mode.{Mode}
 use Rattle.fort_tree.specs.declared.fault.Fault.{Fault}
@@ -11,9 +11,9 @@ use Rattle.fort_tokens.specs.Machine.{fresh, fed_all, finished}
 use Rattle.fort_lex.specs.declared.sentinel.Sentinel.{Sentinel}
 use Rattle.fort_lex.specs.declared.directives.Unended.{Unended}
 use Rattle.fort_lex.specs.Rows.{Row, statement, directive}
-use Rattle.fort_lex.specs.Joined.{Part, is_blank, is_mark, all_blank, mark_off, continuing, next_part, same, Group, grouped, group_at, has_text, open_after}
+use Rattle.fort_lex.specs.Joined.{Part, is_blank, is_mark, all_blank, mark_off, continuing, same, grouped, group_at, has_text, open_after}
 use Rattle.fort_lex.specs.Lines.{Written, directive_line, bad_token, DirectiveLines, no_directive, passed_over, directive_first}
-use Rattle.fort_lex.specs.Machine.{noted, earlier, token_fault, DirectiveState, fed_directive, closed_directive, standing, released, released_by, left, Opening, opening, begun, directive_step, part}
+use Rattle.fort_lex.specs.Machine.{noted, earlier, token_fault, DirectiveState, fed_directive, closed_directive, standing, released, released_by, left, opening, begun, directive_step, part}
 use Rattle.fort_lex.proofs.Noting.{noted-append, noted-bad}
 use Rattle.fort_lex.proofs.Stating.{EachIsRead, fed-append}
 

@@ -1,11 +1,10 @@
 -- The last mark of a line.
-use Rattle.std.proofs.Common.{◌≡◌, ℕ, ◌+◌, ◌-◌, ◌<◌, ◌≤◌, suc, Bool, true, false, cond, not, ◌&&◌, ◌||◌, List, [], ◌∷◌, ◌++◌, length, take, drop, get_or, Option, None, Some, refl, sym, ap, ◌∙◌, subst, arith, append_assoc, drop-cons, take-append-drop}
+use Rattle.std.proofs.Common.{◌≡◌, ℕ, ◌-◌, ◌<◌, ◌≤◌, suc, Bool, true, false, cond, ◌&&◌, List, [], ◌∷◌, ◌++◌, length, take, drop, get_or, None, Some, refl, sym, ap, ◌∙◌, subst, arith, drop-cons, take-append-drop}
 use Rattle.std.specs.Prelude.{◌==◌}
-use Rattle.std.proofs.lemmas.Bool.{true≢false, and_parts}
+use Rattle.std.proofs.lemmas.Bool.{and_parts}
 use Rattle.fort_tokens.specs.declared.character.Char.{Char}
-use Rattle.fort_lex.specs.declared.part.Part.{Part as Parted}
 use Rattle.fort_lex.specs.Joined.{Part, is_blank, is_mark, all_blank, mark_off, blank_at, without_blanks, continuing, continuing_at}
-use Rattle.fort_lex.specs.Shown.{shown_part, no_char}
+use Rattle.fort_lex.specs.Shown.{no_char}
 
 and-false : (b : Bool) → (b && false) ≡ false
 and-false true = refl

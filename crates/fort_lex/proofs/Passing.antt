@@ -1,11 +1,10 @@
 -- Going over a text gives its lines and its first fault.
-use Rattle.std.proofs.Common.{◌≡◌, ℕ, ◌+◌, List, [], ◌∷◌, ◌++◌, Option, None, Some, refl, sym, ap, ◌∙◌, subst, append_assoc}
+use Rattle.std.proofs.Common.{◌≡◌, ℕ, ◌+◌, List, [], ◌∷◌, ◌++◌, None, refl, sym, ap, ◌∙◌, subst, append_assoc}
 use Rattle.fort_tree.specs.declared.choice.Mode.{Mode}
-use Rattle.fort_tree.specs.declared.fault.Fault.{Fault}
 use Rattle.fort_lex.specs.Rows.{Row, statement, directive, row, rows, physical, byte_faults, bad_bytes, too_long, code}
 use Rattle.fort_lex.specs.Joined.{statement_texts}
-use Rattle.fort_lex.specs.Lines.{Written, HasLines, in_order}
-use Rattle.fort_lex.specs.Machine.{noted, earlier, PassState, row_taken, bytes_noted, line_taken, lines_taken, new_pass, text_ended, gone_over, lines_of, first_fault}
+use Rattle.fort_lex.specs.Lines.{in_order}
+use Rattle.fort_lex.specs.Machine.{noted, earlier, PassState, row_taken, bytes_noted, line_taken, lines_taken, new_pass, text_ended, gone_over}
 use Rattle.fort_lex.specs.Going.{FirstOf, Going}
 use Rattle.fort_lex.proofs.Noting.{noted-append}
 use Rattle.fort_lex.proofs.Stating.{EachIsRead, stated, states}

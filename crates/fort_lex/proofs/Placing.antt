@@ -1,6 +1,5 @@
 -- Characters at their places.
-use Rattle.std.proofs.Common.{◌≡◌, ℕ, ◌+◌, List, [], ◌∷◌, ◌++◌, length, refl, sym, ap, ◌∙◌, arith}
-use Rattle.fort_tokens.specs.declared.character.Char.{Char}
+use Rattle.std.proofs.Common.{◌≡◌, ℕ, ◌+◌, List, [], ◌∷◌, ◌++◌, length, ap, ◌∙◌, arith}
 use Rattle.fort_lex.specs.Rows.{placed, place, blanked}
 
 pub placed-more : (f n k : ℕ) (bytes : List ℕ) (b : ℕ) → placed f n k (bytes ++ b ∷ []) ≡ placed f n k bytes ++ record { byte = blanked b; at = place f n (k + length bytes) } ∷ []

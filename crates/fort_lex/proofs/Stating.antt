@@ -8,7 +8,7 @@ use Rattle.fort_tokens.specs.declared.character.Char.{Char}
 use Rattle.fort_tokens.specs.Reading.{Reading}
 use Rattle.fort_tokens.specs.Reads.{Reads}
 use Rattle.fort_tokens.specs.Machine.{fresh, fed, fed_all, finished}
-use Rattle.fort_lex.specs.Joined.{Part, mark_off, next_part, joined, statement_at, Statement}
+use Rattle.fort_lex.specs.Joined.{mark_off, next_part, joined, statement_at}
 use Rattle.fort_lex.specs.Lines.{Written, statement_line, bad_token, is_semicolon, pieces, PieceLines, last_piece, piece, StatementLines, no_statement, statement_first}
 use Rattle.fort_lex.specs.Machine.{noted, earlier, token_fault, StatementState, closed_statement, put, put_all, ended, part, statements_ended}
 use Rattle.fort_lex.proofs.Noting.{noted-append, noted-bad}

@@ -1,16 +1,14 @@
 -- A text has one list of lines and one list of faults.
-use Rattle.std.proofs.Common.{◌≡◌, ◌⊎◌, ℕ, Bool, true, false, cond, not, ◌&&◌, List, [], ◌∷◌, ◌++◌, Option, None, Some, refl, sym, ap, ◌∙◌, subst, inl, inr}
+use Rattle.std.proofs.Common.{◌≡◌, ℕ, Bool, ◌&&◌, List, [], ◌∷◌, ◌++◌, Option, None, refl, sym, ap, ◌∙◌, subst}
 use Rattle.std.specs.Prelude.{is_some}
-use Rattle.std.specs.List.{list_all}
-use Rattle.std.proofs.lemmas.Bool.{true≢false, and_parts}
 use Rattle.fort_tree.specs.declared.place.Place.{Place}
 use Rattle.fort_tree.specs.declared.choice.Mode.{Mode}
 use Rattle.fort_tree.specs.declared.fault.Fault.{Fault}
 use Rattle.fort_tokens.specs.declared.character.Char.{Char}
 use Rattle.fort_tokens.specs.Reads.{Word, Reads}
 use Rattle.fort_lex.specs.declared.sentinel.Sentinel.{Sentinel}
-use Rattle.fort_lex.specs.Rows.{Row, statement, directive, rows, physical, byte_faults}
-use Rattle.fort_lex.specs.Joined.{statement_at, group_at, has_text, open_after, statement_texts}
+use Rattle.fort_lex.specs.Rows.{Row, physical, byte_faults}
+use Rattle.fort_lex.specs.Joined.{statement_at, group_at, has_text, open_after}
 use Rattle.fort_lex.specs.Lines.{Written, statement_line, directive_line, bad_token, pieces, PieceLines, last_piece, piece, StatementLines, no_statement, statement_first, DirectiveLines, no_directive, passed_over, directive_first, HasLines, in_order}
 
 -- what the reader's crate promises

@@ -1,10 +1,7 @@
 -- What is seen of small texts.
-use Rattle.std.specs.Prelude.{ℕ, ◌≡◌, Bool, true, false, List, [], ◌∷◌, ◌++◌, map, codes, replicate, Option, None, Some, option_map}
+use Rattle.std.specs.Prelude.{ℕ, Bool, false, List, map, Option, None, option_map}
 use Rattle.fort_tree.specs.declared.choice.Mode.TheVariants.{Source}
-use Rattle.fort_tree.specs.declared.fault.Fault.{Fault}
 use Rattle.fort_tree.specs.declared.fault.Code.{Code}
-use Rattle.fort_tree.specs.declared.fault.Code.TheVariants.{E01, E02, E03}
-use Rattle.fort_tree.specs.declared.place.Place.{Place}
 use Rattle.fort_lex.specs.Lines.{Written}
 use Rattle.fort_lex.specs.Machine.{gone_over, lines_of, first_fault}
 

@@ -1,5 +1,5 @@
 -- Continued lines.
-use Rattle.std.specs.Prelude.{ℕ, Bool, false, true, cond, ◌==◌, ◌&&◌, not, ◌||◌, List, [], ◌∷◌, ◌++◌, length, drop, position, Option, None, Some, unwrap_or}
+use Rattle.std.specs.Prelude.{Bool, false, true, cond, ◌==◌, ◌&&◌, not, ◌||◌, List, [], ◌∷◌, ◌++◌, length, drop, position, Option, None, Some, unwrap_or}
 use Rattle.std.specs.List.{list_all}
 use Rattle.fort_tree.specs.declared.place.Place.{Place}
 use Rattle.fort_tokens.specs.declared.character.Char.{Char}

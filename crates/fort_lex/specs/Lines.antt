@@ -5,14 +5,13 @@ use Rattle.fort_tree.specs.declared.place.Place.{Place}
 use Rattle.fort_tree.specs.declared.choice.Mode.{Mode}
 use Rattle.fort_tree.specs.declared.statement.Line.{Line}
 use Rattle.fort_tree.specs.declared.fault.Fault.{Fault}
-use Rattle.fort_tree.specs.declared.fault.Code.{Code}
 use Rattle.fort_tree.specs.declared.fault.Code.TheVariants.{E03}
 use Rattle.fort_tree.specs.Code.{code_number}
 use Rattle.fort_tokens.specs.declared.character.Char.{Char}
 use Rattle.fort_tokens.specs.Reads.{Word, word_of, Reads}
 use Rattle.fort_lex.specs.declared.sentinel.Sentinel.{Sentinel}
 use Rattle.fort_lex.specs.Rows.{Row, statement, directive, rows, physical, word_of_sentinel, byte_faults, fault}
-use Rattle.fort_lex.specs.Joined.{joined, Statement, statement_at, Group, group_at, statement_texts, has_text, open_after}
+use Rattle.fort_lex.specs.Joined.{statement_at, group_at, statement_texts, has_text, open_after}
 
 -- a logical line, its tokens as their texts and places
 pub record Written : Type 0 where

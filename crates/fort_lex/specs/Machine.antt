@@ -1,5 +1,5 @@
 -- What one line does to what was read before it.
-use Rattle.std.specs.Prelude.{ℕ, ◌+◌, Bool, false, true, cond, ◌==◌, ◌&&◌, ◌||◌, not, nat_lt, List, [], ◌∷◌, ◌++◌, length, map, option_map, Option, None, Some, is_some}
+use Rattle.std.specs.Prelude.{ℕ, ◌+◌, Bool, false, cond, List, [], ◌∷◌, ◌++◌, map, Option, None, Some, is_some}
 use Rattle.fort_tree.specs.declared.place.Place.{Place}
 use Rattle.fort_tree.specs.declared.choice.Mode.{Mode}
 use Rattle.fort_tree.specs.declared.fault.Fault.{Fault}

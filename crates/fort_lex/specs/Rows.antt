@@ -1,5 +1,5 @@
 -- Physical lines: where they end, what sentinel they begin with, and what stands outside comments.
-use Rattle.std.specs.Prelude.{ℕ, ◌+◌, ◌-◌, Bool, false, true, cond, ◌==◌, ◌&&◌, ◌||◌, not, nat_lt, List, [], ◌∷◌, ◌++◌, length, take, drop, slice_index, position, codes, bytes_eq, Option, None, Some, unwrap_or}
+use Rattle.std.specs.Prelude.{ℕ, ◌+◌, ◌-◌, Bool, cond, ◌==◌, ◌&&◌, ◌||◌, not, nat_lt, List, [], ◌∷◌, ◌++◌, length, take, drop, slice_index, position, codes, bytes_eq, Option, None, Some, unwrap_or}
 use Rattle.fort_tree.specs.Name.{lowercase}
 use Rattle.fort_tree.specs.declared.place.Place.{Place}
 use Rattle.fort_tree.specs.declared.fault.Fault.{Fault}

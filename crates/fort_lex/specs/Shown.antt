@@ -1,5 +1,5 @@
 -- What the code's values are seen as.
-use Rattle.std.specs.Prelude.{ℕ, List, [], ◌∷◌, map, Option, None, Some}
+use Rattle.std.specs.Prelude.{List, ◌∷◌, map, Option, None, Some}
 use Rattle.fort_tree.specs.declared.place.Place.{Place}
 use Rattle.fort_tokens.specs.declared.character.Char.{Char}
 use Rattle.fort_lex.specs.declared.part.Part.{Part as Parted}

@@ -1,4 +1,4 @@
-use Rattle.std.proofs.Common.{◌≡◌, ◌∙◌, refl, sym, subst}
+use Rattle.std.proofs.Common.{◌∙◌, refl, sym, subst}
 use Rattle.std.specs.Prelude.{IsTrue}
 use Rattle.fort_tree.specs.Token.{is_token}
 use Rattle.fort_lex.specs.declared.sentinel.Sentinel.{Sentinel}

@@ -1,6 +1,5 @@
-use Rattle.std.proofs.Common.{◌≡◌, [], ◌∷◌, ◌++◌, List, sym, ◌∙◌}
+use Rattle.std.proofs.Common.{◌≡◌, [], ◌∷◌, ◌++◌, List, ◌∙◌}
 use Rattle.fort_tree.specs.declared.fault.Fault.{Fault}
-use Rattle.fort_lex.specs.Lines.{IsFirst}
 use Rattle.fort_lex.proofs.laws.lines_or_a_fault.Goals as goal
 
 not-empty : (front : List Fault) (f : Fault) (back : List Fault) → [] ≡ front ++ f ∷ back → ⊥

@@ -1,8 +1,5 @@
-use Rattle.std.proofs.Common.{◌≡◌, ℕ, ◌-◌, ◌<◌, Bool, true, false, take, drop, length, get_or, refl, sym, ap, ◌∙◌, subst, arith, eq-eqb}
-use Rattle.std.specs.Prelude.{◌==◌}
-use Rattle.fort_tokens.specs.declared.character.Char.{Char}
-use Rattle.fort_lex.specs.Joined.{Part, all_blank, is_mark}
-use Rattle.fort_lex.specs.Shown.{no_char}
+use Rattle.std.proofs.Common.{◌≡◌, drop, sym, ap, ◌∙◌, arith, eq-eqb}
+use Rattle.fort_lex.specs.Joined.{all_blank}
 use Rattle.fort_lex.proofs.Marking.{marked-at, unmarked-at, only-blanks, test-false}
 use Rattle.fort_lex.proofs.part.mark_off.Goals as goal
 use Rattle.fort_lex.proofs.part.mark_off.Goals.{else-end-gt0-via-then-end-gt0+else-line-end-eq38, else-end-gt0-via-else-end-gt0}

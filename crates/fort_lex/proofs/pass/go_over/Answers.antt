@@ -1,6 +1,6 @@
-use Rattle.std.proofs.Common.{◌≡◌, ◌≤◌, ◌<◌, ℕ, List, ◌+◌, ◌-◌, take, drop, [], ◌∷◌, length, ap, sym, ◌∙◌, subst, arith}
-use Rattle.fort_lex.specs.Rows.{lines_from, without_return, physical}
-use Rattle.fort_lex.specs.Machine.{PassState, lines_taken, line_taken, text_ended, new_pass}
+use Rattle.std.proofs.Common.{◌≡◌, ◌<◌, ℕ, List, ◌+◌, ◌-◌, take, drop, length, ap, sym, ◌∙◌, arith}
+use Rattle.fort_lex.specs.Rows.{lines_from, without_return}
+use Rattle.fort_lex.specs.Machine.{PassState, lines_taken, line_taken, text_ended}
 use Rattle.fort_lex.specs.Shown.{shown_pass}
 use Rattle.fort_lex.proofs.Lining.{line-end, line-more, text-end}
 use Rattle.fort_lex.proofs.pass.go_over.Goals as goal

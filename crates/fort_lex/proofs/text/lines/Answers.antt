@@ -1,9 +1,7 @@
-use Rattle.std.proofs.Common.{◌≡◌, List, [], map, Option, None, Some, sym, ap, ◌∙◌, subst}
-use Rattle.fort_tree.specs.declared.fault.Fault.{Fault}
+use Rattle.std.proofs.Common.{◌≡◌, [], map, None, Some, sym, ap, ◌∙◌, subst}
 use Rattle.fort_tokens.proofs.Feeding.{reads}
-use Rattle.fort_lex.specs.Lines.{Written, written, HasLines, IsFirstTextFault}
-use Rattle.fort_lex.specs.Machine.{PassState, gone_over, lines_of, first_fault}
-use Rattle.fort_lex.specs.Shown.{shown_pass}
+use Rattle.fort_lex.specs.Lines.{written, HasLines, IsFirstTextFault}
+use Rattle.fort_lex.specs.Machine.{gone_over, lines_of, first_fault}
 use Rattle.fort_lex.specs.Going.{FirstOf}
 use Rattle.fort_lex.proofs.Passing.{goes}
 use Rattle.fort_lex.proofs.text.lines.Goals as goal
