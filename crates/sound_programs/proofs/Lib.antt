@@ -5,3 +5,4 @@ pub mod BareTrees
 pub mod Chains
 pub mod SoundLaws
 pub mod OneTree
+pub mod OneFile

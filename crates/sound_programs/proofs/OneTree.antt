@@ -17,7 +17,7 @@ use Rattle.sound_programs.specs.Nesting.{Inside, arm, case, Simple, assigns, cal
 
 -- ---- Where no statement begins
 
-pub ends_here_level : Statement-F Statement → Bool
+unfoldable pub ends_here_level : Statement-F Statement → Bool
 ends_here_level (Statement-F.Assign left right) = false
 ends_here_level (Statement-F.Call name args) = false
 ends_here_level (Statement-F.IfAction test at action) = false
@@ -29,13 +29,13 @@ ends_here_level Statement-F.Return = false
 ends_here_level (Statement-F.Select on) = false
 ends_here_level other = true
 
-is_end_word : DirectiveWord → Bool
+unfoldable pub is_end_word : DirectiveWord → Bool
 is_end_word EndHoist = true
 is_end_word EndTransform = true
 is_end_word other = false
 
 -- no statement begins with these forms
-abbrev ends_here : List Form → Bool
+abbrev pub ends_here : List Form → Bool
 ends_here [] = true
 ends_here (Says at said ∷ rest) = ends_here_level said
 ends_here (Directs d ∷ rest) = is_end_word d.word
@@ -94,7 +94,7 @@ simple_unique (exits h) (exits k) = refl
 simple_unique (cycles h) (cycles k) = refl
 simple_unique (returns h) (returns k) = refl
 
-abbrev behind_first : List Form → List Form
+abbrev pub behind_first : List Form → List Form
 behind_first [] = []
 behind_first (f ∷ rest) = rest
 
@@ -127,7 +127,7 @@ module _ (mode : Mode) where
 
   mutual
     unfolding ends_here_level is_end_word
-    body_unique : {around : Inside} {forms rest rest' : List Form} {ss ts : List Stmt} → Body mode around forms ss rest → ends_here rest ≡ true → Body mode around forms ts rest' → ends_here rest' ≡ true → (ss ≡ ts) × (rest ≡ rest')
+    pub body_unique : {around : Inside} {forms rest rest' : List Form} {ss ts : List Stmt} → Body mode around forms ss rest → ends_here rest ≡ true → Body mode around forms ts rest' → ends_here rest' ≡ true → (ss ≡ ts) × (rest ≡ rest')
     body_unique done c done c' = (refl, refl)
     body_unique done c (more one body) c' = absurd (false≢true (sym (begins one) ∙ c))
     body_unique (more one body) c done c' = absurd (false≢true (sym (begins one) ∙ c'))
