@@ -4,3 +4,5 @@ pub mod NestingOfSound
 pub mod BareTrees
 pub mod Chains
 pub mod SoundLaws
+pub mod OneTree
+pub mod OneFile

@@ -1,10 +1,12 @@
 //! Laws of the definitions, and what holds of every sound program.
 
-ghost use Rattle.std.specs.Prelude.{◌≡◌, ◌↔◌, IsTrue};
+ghost use Rattle.std.specs.Prelude.{◌≡◌, ◌↔◌, IsTrue, List};
 ghost use Rattle.fort_tree.specs.declared.choice.Mode.{Mode};
 ghost use Rattle.fort_tree.specs.declared.unit.File.{File};
 ghost use Rattle.claw_meaning.specs.Plain.{plain_file};
 ghost use Rattle.claw_meaning.specs.Syntax.{Text};
+ghost use Rattle.sound_programs.specs.Forms.{Form};
+ghost use Rattle.sound_programs.specs.Nesting.{Nests};
 ghost use Rattle.sound_programs.specs.Laws.{CallsAreKnown, DeclaresOnce, HasNoCycle, HasNoFirstFault, NamesAreKnown};
 ghost use Rattle.sound_programs.specs.Links.{Links, Reaches, leads};
 ghost use Rattle.sound_programs.specs.Placed.{Program, bare_program};
@@ -20,6 +22,11 @@ pub fn placed_trees_are_plain_trees_with_places()
 /// Each placed tree is the placed tree of a file.
 pub fn placed_trees_are_of_files()
     ensures { (program : Program) → placed (file_of program) ≡ program }
+{}
+
+/// Forms nest into one file at most, its places included.
+pub fn forms_nest_into_one_file()
+    ensures { (mode : Mode) (forms : List Form) (f g : File) → Nests mode forms f → Nests mode forms g → f ≡ g }
 {}
 
 /// What is reached in any number of links is reached in as many as there are: the computed test of a chain is exact.

@@ -7,7 +7,7 @@ mod laws;
 mod rows;
 
 pub use laws::{
-    chains_are_short, names_of_sound_programs, placed_trees_are_of_files,
+    chains_are_short, forms_nest_into_one_file, names_of_sound_programs, placed_trees_are_of_files,
     placed_trees_are_plain_trees_with_places, sound_programs_have_no_cycle,
     sound_programs_have_no_first_fault,
 };
