@@ -7,11 +7,11 @@ ghost use Rattle.claw_meaning.specs.Plain.{plain_file};
 ghost use Rattle.claw_meaning.specs.Syntax.{Text};
 ghost use Rattle.sound_programs.specs.Forms.{Form};
 ghost use Rattle.sound_programs.specs.Nesting.{Nests};
-ghost use Rattle.sound_programs.specs.Laws.{CallsAreKnown, DeclaresOnce, HasNoCycle, HasNoFirstFault, NamesAreKnown};
+ghost use Rattle.sound_programs.specs.Laws.{CallsAreKnown, DeclaresOnce, HasNoCycle, HasNoFirstFault, KindsAgree, NamesAreKnown, SoundOrFaulty};
 ghost use Rattle.sound_programs.specs.Links.{Links, Reaches, leads};
 ghost use Rattle.sound_programs.specs.Placed.{Program, bare_program};
 ghost use Rattle.sound_programs.specs.Placing.{placed};
-ghost use Rattle.sound_programs.specs.Sound.{Sound};
+ghost use Rattle.sound_programs.specs.Sound.{IsNested, Sound};
 ghost use Rattle.sound_programs.specs.Writing.{file_of};
 
 /// The placed tree of a file, its places forgotten, is the plain tree on which its meaning is defined.
@@ -47,7 +47,13 @@ pub fn names_of_sound_programs()
     ensures called { (mode : Mode) (file : File) → Sound mode file → CallsAreKnown file }
 {}
 
-/// A sound program has no first fault.
-pub fn sound_programs_have_no_first_fault()
-    ensures { (mode : Mode) (file : File) → Sound mode file → HasNoFirstFault mode file }
+/// A program into which forms nest is sound or has a first fault, and never both.
+pub fn sound_or_a_first_fault()
+    ensures either { (mode : Mode) (file : File) → IsNested mode file → SoundOrFaulty mode file }
+    ensures never_both { (mode : Mode) (file : File) → Sound mode file → HasNoFirstFault mode file }
+{}
+
+/// Where no fault leaves the kind of an expression open, it is the kind that the meaning gives it.
+pub fn known_kinds_are_those_of_the_meaning()
+    ensures { KindsAgree }
 {}
