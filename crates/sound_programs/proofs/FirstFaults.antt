@@ -1,7 +1,7 @@
 -- Where there are faults there is a least, and so a program into which forms nest is sound exactly where it has no first fault.
-use Rattle.std.proofs.Common.{◌≡◌, ℕ, ◌<◌, List, [], ◌∷◌, ◌++◌, map, Bool, true, false, ◌&&◌, ◌||◌, not, refl, sym, ap, subst, ◌∙◌, inl, inr, arith}
+use Rattle.std.proofs.Common.{◌≡◌, ℕ, ◌<◌, List, [], ◌∷◌, Bool, true, false, ◌&&◌, ◌||◌, not, refl, sym, subst, ◌∙◌, inl, inr, arith}
 use Rattle.std.specs.Prelude.{◌⊎◌, nat_eq, nat_lt}
-use Rattle.std.specs.List.{list_any, list_all}
+use Rattle.std.specs.List.{list_all}
 use Rattle.std.proofs.lemmas.Bool.{and_parts, and_from, false≢true, eqb-true, eq-eqb, ltb-true, ltb-false, lt-ltb, or_left, or_right, or_cases, false_from_ne_true, not_from_false}
 use Rattle.fort_tree.specs.Code.{code_number}
 use Rattle.fort_tree.specs.declared.choice.Mode.{Mode}
@@ -12,7 +12,7 @@ use Rattle.fort_tree.specs.declared.unit.File.{File}
 use Rattle.sound_programs.specs.ArgumentFaults.{count_faults, alias_faults, write_faults}
 use Rattle.sound_programs.specs.CallFaults.{recursions, size_faults}
 use Rattle.sound_programs.specs.DeclarationFaults.{declared_twice, module_faults, intent_faults}
-use Rattle.sound_programs.specs.Faults.{Found, found, faults_of_names, faults_of_calls, faults_of_kinds, is_before, is_this, IsLeast, FirstFault, of_names, of_calls, of_kinds}
+use Rattle.sound_programs.specs.Faults.{Found, found, faults_of_names, faults_of_calls, faults_of_kinds, is_before, is_this, IsLeast, of_names, of_calls, of_kinds}
 use Rattle.sound_programs.specs.KindFaults.{kind_faults}
 use Rattle.sound_programs.specs.Laws.{SoundOrFaulty}
 use Rattle.sound_programs.specs.LoopFaults.{loop_faults}
@@ -93,14 +93,14 @@ unfolding Comes_before
 test_if a b (inl f) = or_left (is_earlier a.at b.at) _ (or_left (nat_lt a.at.file b.at.file) _ (lt-ltb a.at.file b.at.file f))
 test_if a b (inr (f, inl l)) =
     or_left (is_earlier a.at b.at) _ (or_right (nat_lt a.at.file b.at.file) _ (and_from (nat_eq a.at.file b.at.file) _ (eq-eqb a.at.file b.at.file f)
-      (or_left (nat_lt a.at.line b.at.line) _ (lt-ltb a.at.line b.at.line l))))
+    (or_left (nat_lt a.at.line b.at.line) _ (lt-ltb a.at.line b.at.line l))))
 test_if a b (inr (f, inr (l, inl c))) =
     or_left (is_earlier a.at b.at) _ (or_right (nat_lt a.at.file b.at.file) _ (and_from (nat_eq a.at.file b.at.file) _ (eq-eqb a.at.file b.at.file f)
-      (or_right (nat_lt a.at.line b.at.line) _ (and_from (nat_eq a.at.line b.at.line) _ (eq-eqb a.at.line b.at.line l) (lt-ltb a.at.column b.at.column c)))))
+    (or_right (nat_lt a.at.line b.at.line) _ (and_from (nat_eq a.at.line b.at.line) _ (eq-eqb a.at.line b.at.line l) (lt-ltb a.at.column b.at.column c)))))
 test_if a b (inr (f, inr (l, inr (c, n)))) =
     or_right (is_earlier a.at b.at) _ (and_from (same_place a.at b.at) _
-      (and_from (nat_eq a.at.file b.at.file) _ (eq-eqb a.at.file b.at.file f) (and_from (nat_eq a.at.line b.at.line) _ (eq-eqb a.at.line b.at.line l) (eq-eqb a.at.column b.at.column c)))
-      (lt-ltb (code_number a.code) (code_number b.code) n))
+    (and_from (nat_eq a.at.file b.at.file) _ (eq-eqb a.at.file b.at.file f) (and_from (nat_eq a.at.line b.at.line) _ (eq-eqb a.at.line b.at.line l) (eq-eqb a.at.column b.at.column c)))
+    (lt-ltb (code_number a.code) (code_number b.code) n))
 
 -- two aren't before each other, and of three the one before the last is before the middle one or that before the last
 never_both : (a b : Found) → Comes_before a b → Comes_before b a → ⊥
@@ -131,8 +131,8 @@ never_before a b h before = false≢true (subst (λ t. not t ≡ true) (test_if 
 itself : (a : Found) → is_this a a ≡ true
 itself a =
     and_from (same_place a.at a.at) _
-      (and_from (nat_eq a.at.file a.at.file) _ (eq-eqb a.at.file a.at.file refl) (and_from (nat_eq a.at.line a.at.line) _ (eq-eqb a.at.line a.at.line refl) (eq-eqb a.at.column a.at.column refl)))
-      (eq-eqb (code_number a.code) (code_number a.code) refl)
+    (and_from (nat_eq a.at.file a.at.file) _ (eq-eqb a.at.file a.at.file refl) (and_from (nat_eq a.at.line a.at.line) _ (eq-eqb a.at.line a.at.line refl) (eq-eqb a.at.column a.at.column refl)))
+    (eq-eqb (code_number a.code) (code_number a.code) refl)
 
 all_by : (p q : Found → Bool) (faults : List Found) → ((f : Found) → p f ≡ true → q f ≡ true) → list_all p faults ≡ true → list_all q faults ≡ true
 all_by p q [] by h = refl
@@ -146,16 +146,22 @@ with_head : (f : Found) (rest : List Found) → Least_of rest → Least_of (f �
 with_head f rest (m, least) = go (is_before m f) refl
   where
     go : (b : Bool) → is_before m f ≡ b → Least_of (f ∷ rest)
-    go true e = (m, record {
-      among = or_right (is_this m f) _ least.among;
-      least = and_from (not (is_before f m)) _ (not_before f m (λ h. never_both f m h (before_if m f e))) least.least;
-    })
-    go false e = (f, record {
-      among = or_left (is_this f f) _ (itself f);
-      least =
-          and_from (not (is_before f f)) _ (not_before f f (λ h. never_both f f h h))
+    go true e = (
+      m,
+      record {
+        among = or_right (is_this m f) _ least.among;
+        least = and_from (not (is_before f m)) _ (not_before f m (λ h. never_both f m h (before_if m f e))) least.least;
+      },
+    )
+    go false e = (
+      f,
+      record {
+        among = or_left (is_this f f) _ (itself f);
+        least =
+            and_from (not (is_before f f)) _ (not_before f f (λ h. never_both f f h h))
             (all_by (λ o. not (is_before o m)) (λ o. not (is_before o f)) rest (λ o h. not_before o f (λ before. not_two o h (one_of o m f before))) least.least);
-    })
+      },
+    )
       where
         not_two : (o : Found) → not (is_before o m) ≡ true → (Comes_before o m) ⊎ (Comes_before m f) → ⊥
         not_two o h (inl before) = never_before o m h before

@@ -1,23 +1,21 @@
 -- Where no fault leaves the kind of an expression open, it is the kind that the meaning gives it.
-use Rattle.std.proofs.Common.{◌≡◌, ℕ, List, [], ◌∷◌, Bool, true, false, ◌&&◌, Option, None, Some, cond, refl, sym, ap, subst, ◌∙◌, arith}
+use Rattle.std.proofs.Common.{◌≡◌, ℕ, List, [], ◌∷◌, Bool, true, false, Option, None, Some, cond, refl, ap, ◌∙◌, arith}
 use Rattle.std.specs.Prelude.{nat_eq, is_some, ⊤}
 use Rattle.std.proofs.lemmas.Bool.{false≢true, eqb-true}
 use Rattle.fort_arith.specs.declared.kind.Kind.{Kind}
 use Rattle.fort_arith.specs.declared.kind.Kind.TheVariants.{I1, I2, I4, I8, Logical}
-use Rattle.fort_arith.specs.declared.op.Op.{Op}
 use Rattle.fort_arith.specs.declared.op.Intrinsic.{Intrinsic}
 use Rattle.fort_arith.specs.declared.op.Intrinsic.TheVariants.{Abs, Int, Max, Min, Mod, Modulo, Sign, Size, Sum}
 use Rattle.fort_arith.specs.Operators.{is_arithmetic}
 use Rattle.fort_tree.specs.declared.expr.Unary.{Unary}
 use Rattle.fort_tree.specs.declared.expr.Unary.TheVariants.{Plus, Minus, Not}
-use Rattle.fort_tree.specs.declared.place.Place.{Place}
 use Rattle.fort_tree.specs.Intrinsic.{intrinsic_named}
 use Rattle.claw_meaning.specs.Syntax as plain
 use Rattle.claw_meaning.specs.Syntax.{Text}
 use Rattle.claw_meaning.specs.Scope.{Entity, Unknown, Variable, Constant, Procedure, decl_named}
 use Rattle.claw_meaning.specs.Kinds as meant
 use Rattle.sound_programs.specs.Placed.{Expr, Numeral, Boolean, Name, Reference, Signed, Binary, Paren, Subscripts, No_more, One, Section, bare, bare_subs}
-use Rattle.sound_programs.specs.Kinding.{kind, kinds_in, kind_of_entity, kind_of_decl, kind_of_result, integer, greater_of, agreed, common_kind, first_kind, kind_by_bytes, kind_named_by, kind_by_second, kind_of_int, kind_of_intrinsic, kind_of_reference, kind_of_sign, kind_of_operation, is_integer}
+use Rattle.sound_programs.specs.Kinding.{kind, kinds_in, kind_of_entity, kind_of_decl, kind_of_result, integer, greater_of, common_kind, first_kind, kind_by_bytes, kind_named_by, kind_of_int, kind_of_intrinsic, kind_of_reference, kind_of_sign}
 
 -- ---- Kinds that are known
 
