@@ -16,5 +16,5 @@ pub use laws::{
 pub use rows::{
     a_sound_program, faults_of_arguments_by_example, faults_of_calls_by_example,
     faults_of_kinds_by_example, faults_of_names_by_example, faults_of_ranks_by_example,
-    faulty_files, first_faults,
+    faulty_files, first_faults, names_by_example,
 };

@@ -8,7 +8,7 @@ use crate::laws::{
 use crate::rows::{
     a_sound_program, faults_of_arguments_by_example, faults_of_calls_by_example,
     faults_of_kinds_by_example, faults_of_names_by_example, faults_of_ranks_by_example,
-    faulty_files, first_faults,
+    faulty_files, first_faults, names_by_example,
 };
 
 #[test]
@@ -33,4 +33,5 @@ fn rows_are_called(rt: HostRuntime) {
     faults_of_ranks_by_example();
     faulty_files();
     first_faults();
+    names_by_example();
 }
