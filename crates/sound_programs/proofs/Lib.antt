@@ -8,3 +8,4 @@ pub mod OneTree
 pub mod OneFile
 pub mod KindsAgree
 pub mod FirstFaults
+pub mod Origins

@@ -1,14 +1,14 @@
 -- The one thing that a name is in a scope, and where it is declared: in the scope itself; in a module, from which USE brings it
 -- or whose scope is around; or nowhere but in the files, as an external unit or a module. The first hides the second, and the
 -- second the third.
-use Rattle.std.specs.Prelude.{ℕ, List, [], ◌∷◌, map, Option, Some, None, Bool, true, false, if◌then◌else◌}
+use Rattle.std.specs.Prelude.{map, Option, Some, None, Bool, if◌then◌else◌}
 use Rattle.std.specs.List.{list_any}
 use Rattle.std.specs.Str.{bytes_eq}
 use Rattle.claw_meaning.specs.Syntax as plain
 use Rattle.claw_meaning.specs.Syntax.{Text}
 use Rattle.claw_meaning.specs.Scope.{Entity, unit_within, module_at}
 use Rattle.sound_programs.specs.Placed.{Module, Program, bare_use, bare_program}
-use Rattle.sound_programs.specs.Scopes.{Scope, Of_unit, Of_module, uses_of, name_of_scope, declared, entity_in, module_named, or_other, origin, origin_used}
+use Rattle.sound_programs.specs.Scopes.{Scope, Of_unit, Of_module, uses_of, declared, entity_in, module_named, or_other, origin, origin_used}
 
 pub data Seen : Type 0 where
   Nothing_seen : Seen

@@ -1,5 +1,5 @@
 -- What names are in the unit `s` of the small sound program, which uses `n` and `twice` of the module `mo`, and in its module.
-use Rattle.std.specs.Prelude.{◌≡◌, codes, Option, Some, None}
+use Rattle.std.specs.Prelude.{◌≡◌, codes}
 use Rattle.claw_meaning.specs.Scope.{Variable, Constant, Procedure}
 use Rattle.sound_programs.specs.Placed.{bare_decl, bare_unit}
 use Rattle.sound_programs.specs.Scopes.{Of_unit, Of_module}

@@ -1,16 +1,18 @@
 //! Laws of the definitions, and what holds of every sound program.
 
-ghost use Rattle.std.specs.Prelude.{◌≡◌, ◌↔◌, IsTrue, List};
+ghost use Rattle.std.specs.Prelude.{◌≡◌, ◌↔◌, IsTrue, List, is_some};
 ghost use Rattle.fort_tree.specs.declared.choice.Mode.{Mode};
 ghost use Rattle.fort_tree.specs.declared.unit.File.{File};
 ghost use Rattle.claw_meaning.specs.Plain.{plain_file};
-ghost use Rattle.claw_meaning.specs.Syntax.{Text};
+ghost use Rattle.claw_meaning.specs.Scope.{module_gives};
+ghost use Rattle.claw_meaning.specs.Syntax.{Text, Program as Plain};
 ghost use Rattle.sound_programs.specs.Forms.{Form};
 ghost use Rattle.sound_programs.specs.Nesting.{Nests};
 ghost use Rattle.sound_programs.specs.Laws.{CallsAreKnown, DeclaresOnce, HasNoCycle, HasNoFirstFault, KindsAgree, NamesAreKnown, SoundOrFaulty};
 ghost use Rattle.sound_programs.specs.Links.{Links, Reaches, leads};
 ghost use Rattle.sound_programs.specs.Placed.{Program, bare_program};
 ghost use Rattle.sound_programs.specs.Placing.{placed};
+ghost use Rattle.sound_programs.specs.Scopes.{is_known, origin};
 ghost use Rattle.sound_programs.specs.Sound.{IsNested, Sound};
 ghost use Rattle.sound_programs.specs.Writing.{file_of};
 
@@ -22,6 +24,11 @@ pub fn placed_trees_are_plain_trees_with_places()
 /// Each placed tree is the placed tree of a file.
 pub fn placed_trees_are_of_files()
     ensures { (program : Program) → placed (file_of program) ≡ program }
+{}
+
+/// A module gives something under a name exactly where some module is the one that declares it.
+pub fn what_modules_give_has_an_origin()
+    ensures { (program : Plain) (m x : Text) → is_known (module_gives program m x) ≡ is_some (origin program m x) }
 {}
 
 /// Forms nest into one file at most, its places included.

@@ -1,5 +1,4 @@
 use Rattle.std.proofs.Common.{refl}
-use Rattle.sound_programs.specs.VisibleRow.{VisibleRow}
 use Rattle.sound_programs.proofs.rows.names_by_example.Goals as goal
 
 -- src/rows.rt
