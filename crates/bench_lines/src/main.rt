@@ -8,8 +8,7 @@ use fort_lex::lines;
 use fort_tree::{Line, Mode, Seq, Stop};
 use outside::{DirShelf, Shelf};
 use std::alloc::Global;
-use std::env;
-use std::io;
+use std::{env, io};
 
 const MOST_BYTES: u64 = 4194304;
 
@@ -35,7 +34,10 @@ fn report(rt: &HostRuntime, text: &[u8]) -> io::Result<()>
 {
     match counted(rt.alloc(), text) {
         Ok((lines, tokens)) => println!(rt; "lines {lines} tokens {tokens}"),
-        Err(Stop::Fault(fault)) => println!(rt; "fault {}:{}", fault.place.line, fault.place.column),
+        Err(Stop::Fault(fault)) => println!(rt;
+            "fault {}:{}",
+            fault.place.line, fault.place.column
+        ),
         Err(Stop::NoMemory) => println!(rt; "no memory"),
     }
 }
@@ -46,7 +48,11 @@ fn main(rt: HostRuntime) -> io::Result<()> {
         return println!(rt; "usage: bench_lines FILE TIMES");
     };
     let mut text = Vec::new(rt.alloc());
-    if DirShelf::new(&rt).load(name.as_str(), &mut text, MOST_BYTES).is_err() || text.len() > 4194304 {
+    if DirShelf::new(&rt)
+        .load(name.as_str(), &mut text, MOST_BYTES)
+        .is_err()
+        || text.len() > 4194304
+    {
         return println!(rt; "cannot read");
     }
     for _ in 0..times.as_str().parse::<u64>().unwrap_or(1) {
