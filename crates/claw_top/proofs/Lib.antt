@@ -1,2 +1,4 @@
 mod Collecting
+mod Ends
+mod Refusing
 mod Translating

