@@ -19,4 +19,3 @@ pub use top::claw;
 
 #[cfg(test)]
 mod tests;
-#[cfg(test)]
