@@ -19,3 +19,5 @@ pub use top::claw;
 
 #[cfg(test)]
 mod tests;
+#[cfg(test)]
+mod tests_compiling;
