@@ -1,0 +1,9 @@
+mod Noting
+mod Stating
+mod Directing
+mod Firsts
+pub mod Passing
+mod Marking
+mod Placing
+mod Lining
+mod Unique
