@@ -1,3 +1,4 @@
+mod Loads
 mod Ends
 mod ReadingCuts
 mod ReadingLines

@@ -11,11 +11,11 @@ mod compiling;
 mod deciding;
 mod end;
 mod finishing;
+mod loading;
 mod read_law;
 mod reading;
 mod reporting;
 mod top;
-mod words;
 
 pub use read_law::read_units_are_column_scalars;
 pub use top::claw;
