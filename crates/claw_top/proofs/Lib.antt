@@ -1,4 +1,5 @@
 mod Collecting
+mod Loads
 mod Ends
 mod Refusing
 mod Translating

@@ -11,9 +11,9 @@ mod compiling;
 mod deciding;
 mod end;
 mod finishing;
+mod loading;
 mod reporting;
 mod top;
-mod words;
 
 pub use top::claw;
 
