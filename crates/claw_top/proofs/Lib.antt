@@ -1,4 +1,5 @@
 mod Collecting
+mod InFiles
 mod Ends
 mod Refusing
 mod Translating
