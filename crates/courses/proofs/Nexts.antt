@@ -1,5 +1,5 @@
 -- The next access is the first touch of the run of what is left, from any store.
-use Rattle.std.proofs.Common.{◌≡◌, ℕ, suc, refl, List, [], ◌∷◌}
+use Rattle.std.proofs.Common.{◌≡◌, ℕ, suc, refl, List}
 use Rattle.courses.specs.Element.{Value, Store}
 use Rattle.courses.specs.Interaction.{Interaction, Done, Trap, Read, Write, Order, Announce, answer_of, log_of}
 use Rattle.courses.specs.Logs.{touches}

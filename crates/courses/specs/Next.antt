@@ -1,8 +1,7 @@
 -- The next access of an iteration, told by the replies to its earlier ones.
-use Rattle.std.specs.Prelude.{ℕ, List, [], ◌∷◌, Option, Some, None}
-use Rattle.courses.specs.Element.{Value, Element, Store}
-use Rattle.courses.specs.Interaction.{Event, Reads, Writes, Announces, Interaction, Done, Trap, Read, Write, Order, Announce, answer_of, log_of}
-use Rattle.courses.specs.Logs.{touches}
+use Rattle.std.specs.Prelude.{List, [], ◌∷◌, Option, Some, None}
+use Rattle.courses.specs.Element.{Value}
+use Rattle.courses.specs.Interaction.{Event, Reads, Writes, Interaction, Done, Trap, Read, Write, Order, Announce}
 use Rattle.courses.specs.Weaving.{rising}
 
 -- it reads or writes an element, or has ended, or traps

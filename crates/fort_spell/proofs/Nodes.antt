@@ -1,6 +1,6 @@
 -- The pieces of each kind of expression.
 use Rattle.std.proofs.Common.{drop-cons}
-use Rattle.std.proofs.Common.{◌≡◌, ℕ, ◌+◌, ◌<◌, suc, length, drop, get_or, arith, Bool, false, List, [], ◌∷◌, refl, sym, ap, ◌∙◌, map, Some, None}
+use Rattle.std.proofs.Common.{◌≡◌, ℕ, ◌+◌, ◌<◌, suc, length, drop, get_or, arith, Bool, false, List, ◌∷◌, refl, sym, ap, ◌∙◌, map, Some, None}
 use Rattle.std.specs.Prelude.{option_map}
 use Rattle.std.specs.declared.option.Option.{Option}
 use Rattle.fort_arith.specs.declared.op.Op.{Op}

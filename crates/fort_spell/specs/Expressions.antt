@@ -1,5 +1,5 @@
 -- The pieces of an expression.
-use Rattle.std.specs.Prelude.{Bool, true, false, List, ◌∷◌, [], Option, None, Some, option_map}
+use Rattle.std.specs.Prelude.{Bool, true, false, List, Option, None, Some, option_map}
 use Rattle.fort_arith.specs.declared.op.Op.{Op}
 use Rattle.fort_arith.specs.declared.op.Op.TheVariants as op
 use Rattle.fort_tree.specs.declared.expr.Unary.{Unary}
@@ -10,7 +10,7 @@ use Rattle.fort_tree.specs.declared.expr.Expr.TheOpen.{Expr-F, Sub-F}
 use Rattle.fort_tree.specs.declared.expr.Expr.TheFolds.{fold-Expr, fold-Sub}
 use Rattle.fort_spell.specs.declared.mark.Mark.{Mark}
 use Rattle.fort_spell.specs.declared.mark.Mark.TheVariants as mark
-use Rattle.fort_spell.specs.Pieces.{Piece, Spelling, word, number, sign, or_none, bracketed, span}
+use Rattle.fort_spell.specs.Pieces.{Piece, Spelling, word, number, sign, bracketed, span}
 
 abbrev pub op_mark : Op → Mark
 op_mark op.Pow = mark.Power

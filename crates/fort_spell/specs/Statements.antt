@@ -17,7 +17,7 @@ use Rattle.fort_spell.specs.declared.mark.Mark.TheVariants as mark
 use Rattle.fort_spell.specs.declared.line.Sentinel.TheVariants as sentinel
 use Rattle.fort_spell.specs.Pieces.{Piece, Spelling, or_none, word, sign, bracketed, span, name_pieces, pair}
 use Rattle.fort_spell.specs.Expressions.{expr_pieces, sub_pieces, bound_pieces}
-use Rattle.fort_spell.specs.Rows.{Row, Block, row, one_row, mark_row, all_rows, deeper}
+use Rattle.fort_spell.specs.Rows.{Block, row, one_row, mark_row, all_rows, deeper}
 
 -- PIECES
 

@@ -1,5 +1,5 @@
 -- What a printer puts. Between two calls it has come to a state, or the sink has failed; then nothing more is put.
-use Rattle.std.specs.Prelude.{◌≡◌, ℕ, ◌<◌, ◌≤◌, List, [], ◌++◌, length, Result, Ok, Err, codes}
+use Rattle.std.specs.Prelude.{◌≡◌, ℕ, ◌<◌, ◌≤◌, List, ◌++◌, length, Result, Ok, Err, codes}
 use Rattle.std.specs.declared.option.Option.{Option}
 use Rattle.fort_spell.specs.declared.line.Margin.{Margin}
 use Rattle.fort_spell.specs.Rows.{Row, laid, line, text}

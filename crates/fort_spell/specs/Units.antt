@@ -1,5 +1,5 @@
 -- The rows of units, modules and files.
-use Rattle.std.specs.Prelude.{ℕ, Bool, true, false, not, ◌==◌, List, [], ◌∷◌, Option, None, Some, codes, map, slice_get}
+use Rattle.std.specs.Prelude.{ℕ, Bool, true, false, ◌==◌, List, [], ◌∷◌, Option, None, Some, codes, map, slice_get}
 use Rattle.std.specs.List.{filter}
 use Rattle.std.specs.Str.{bytes_eq}
 use Rattle.fort_arith.specs.declared.kind.Kind.{Kind}
@@ -23,7 +23,7 @@ use Rattle.fort_spell.specs.declared.mark.Mark.TheVariants as mark
 use Rattle.fort_spell.specs.declared.line.Sentinel.TheVariants as sentinel
 use Rattle.fort_spell.specs.Pieces.{Piece, Spelling, word, sign, number, bracketed, items, span, name_pieces, pair, end_pieces}
 use Rattle.fort_spell.specs.Expressions.{expr_pieces, bound_pieces}
-use Rattle.fort_spell.specs.Rows.{Row, Block, row, one_row, mark_row, all_rows, deeper, text}
+use Rattle.fort_spell.specs.Rows.{Row, Block, one_row, mark_row, all_rows, deeper, text}
 use Rattle.fort_spell.specs.Statements.{stmts_rows}
 
 abbrev pub named_pieces : Named → Spelling

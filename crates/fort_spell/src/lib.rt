@@ -12,3 +12,8 @@ mod text;
 mod units;
 
 pub use text::spell;
+
+#[cfg(test)]
+mod tests;
+#[cfg(test)]
+mod trees;

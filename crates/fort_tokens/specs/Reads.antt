@@ -39,11 +39,11 @@ word_at at token = record { text = bytes token; at = at }
 -- The characters, letters in lower case, are cut into these tokens, up to the first bad one if there is one.
 pub data Cut : List Char → List Word → Option Place → Type 0 where
   end : Cut [] [] None
-  blank : {rest : List Char} {words : List Word} {bad : Option Place} (c : Char) → c.byte ≡ 32 → Cut rest words bad → Cut (c ∷ rest) words bad
-  token : {rest : List Char} {words : List Word} {bad : Option Place} (c : Char) (w : List Char) → Longest (c ∷ w) rest → is_sound (c ∷ w) rest ≡ true →
-      Cut rest words bad → Cut (c ∷ w ++ rest) (word_at c.at (c ∷ w) ∷ words) bad
-  broken : {rest : List Char} (c : Char) (w : List Char) → Longest (c ∷ w) rest → is_sound (c ∷ w) rest ≡ false → Cut (c ∷ w ++ rest) [] (Some c.at)
-  none : {rest : List Char} (c : Char) → c.byte ≢ 32 → ((w after : List Char) → rest ≡ w ++ after → is_form (bytes (c ∷ w)) ≡ false) → Cut (c ∷ rest) [] (Some c.at)
+  blank : {rest : List Char} {words : List Word} {bad : Option Place} (first : Char) → first.byte ≡ 32 → Cut rest words bad → Cut (first ∷ rest) words bad
+  token : {rest : List Char} {words : List Word} {bad : Option Place} (first : Char) (others : List Char) → Longest (first ∷ others) rest → is_sound (first ∷ others) rest ≡ true →
+      Cut rest words bad → Cut (first ∷ others ++ rest) (word_at first.at (first ∷ others) ∷ words) bad
+  broken : {rest : List Char} (first : Char) (others : List Char) → Longest (first ∷ others) rest → is_sound (first ∷ others) rest ≡ false → Cut (first ∷ others ++ rest) [] (Some first.at)
+  none : {rest : List Char} (first : Char) → first.byte ≢ 32 → ((others after : List Char) → rest ≡ others ++ after → is_form (bytes (first ∷ others)) ≡ false) → Cut (first ∷ rest) [] (Some first.at)
 
 -- the character with an upper-case letter put into lower case
 abbrev pub lowered : Char → Char

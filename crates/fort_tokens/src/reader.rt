@@ -77,13 +77,13 @@ impl Reader {
     ///
     /// # Errors
     /// `NoMemory` only where memory was refused. Nothing is said of the reader then.
-    pub fn feed(&mut self, alloc: Global, c: Char) -> Result<(), NoMemory>
-        ensures { OnOk result (self.new ≡ fed self.old c) }
+    pub fn feed(&mut self, alloc: Global, character: Char) -> Result<(), NoMemory>
+        ensures { OnOk result (self.new ≡ fed self.old character) }
     {
         if self.bad.is_some() {
             return Ok(());
         }
-        let c = in_lower_case(c);
+        let c = in_lower_case(character);
         match self.goes_on(c.byte) {
             Some(shape) => self.grow(shape, c),
             None => {

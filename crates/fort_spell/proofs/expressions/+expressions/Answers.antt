@@ -1,4 +1,4 @@
-use Rattle.std.proofs.Common.{◌≡◌, ◌∷◌, ap, refl, map, false, rules, arith}
+use Rattle.std.proofs.Common.{◌≡◌, ◌∷◌, ap, map, false, rules, arith}
 use Rattle.std.proofs.lemmas.Grind.{common_steps}
 use Rattle.fort_spell.specs.Expressions.{sub_pieces, bound_pieces}
 use Rattle.fort_spell.specs.Pieces.{items, lower}

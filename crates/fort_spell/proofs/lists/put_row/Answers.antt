@@ -1,4 +1,4 @@
-use Rattle.fort_spell.proofs.Streams.{put_both, put_is, row_of}
+use Rattle.fort_spell.proofs.Streams.{row_of}
 use Rattle.fort_spell.proofs.lists.put_row.Goals as goal
 
 pub returns : goal.returns

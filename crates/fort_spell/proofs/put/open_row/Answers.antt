@@ -1,4 +1,3 @@
-use Rattle.std.proofs.Common.{◌∙◌}
 use Rattle.fort_spell.proofs.Streams.{put_both, opened_ok, opened_err, margin_width}
 use Rattle.fort_spell.proofs.put.open_row.Goals as goal
 

@@ -1,4 +1,3 @@
-use Rattle.std.proofs.Common.{◌++◌}
 use Rattle.fort_spell.proofs.Streams.{put_both, put_as, blanks_next}
 use Rattle.fort_spell.proofs.put.put_blanks.Goals as goal
 

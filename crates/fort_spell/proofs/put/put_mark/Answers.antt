@@ -1,4 +1,4 @@
-use Rattle.std.proofs.Common.{sym, ◌∙◌, ap, ◌++◌, []}
+use Rattle.std.proofs.Common.{sym, ◌∙◌}
 use Rattle.std.proofs.lemmas.List.{append-nil}
 use Rattle.fort_spell.specs.Pieces.{Sign}
 use Rattle.fort_spell.proofs.put.put_mark.Goals as goal

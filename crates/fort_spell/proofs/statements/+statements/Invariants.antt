@@ -1,5 +1,5 @@
 use Rattle.std.proofs.Common.{map, drop}
-use Rattle.fort_spell.specs.Statements.{arm_rows, case_rows, else_if_rows, print, print_arm, print_case, stmts_rows}
+use Rattle.fort_spell.specs.Statements.{arm_rows, case_rows, else_if_rows, print_arm, print_case, stmts_rows}
 use Rattle.fort_spell.specs.Stream.{Left, rows_shown}
 use Rattle.fort_spell.proofs.statements.«+statements».Given as goal
 

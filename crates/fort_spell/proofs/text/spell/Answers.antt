@@ -1,4 +1,4 @@
-use Rattle.std.proofs.Common.{map, []}
+use Rattle.std.proofs.Common.{map}
 use Rattle.fort_spell.specs.Rows.{all_rows}
 use Rattle.fort_spell.specs.Units.{item_rows}
 use Rattle.fort_spell.proofs.Streams.{ended}

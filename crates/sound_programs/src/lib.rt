@@ -1,0 +1,18 @@
+//! What it is that a program has no fault of names, calls and kinds: the definition on which every later pass stands, in `specs/`.
+//!
+//! The functions here run nothing. Each carries a law or computed rows in its contract.
+#![tactic(auto)]
+
+mod laws;
+mod rows;
+
+pub use laws::{
+    chains_are_short, forms_nest_into_one_file, names_of_sound_programs, placed_trees_are_of_files,
+    placed_trees_are_plain_trees_with_places, sound_programs_have_no_cycle,
+    sound_programs_have_no_first_fault,
+};
+pub use rows::{
+    a_sound_program, faults_of_arguments_by_example, faults_of_calls_by_example,
+    faults_of_kinds_by_example, faults_of_names_by_example, faults_of_ranks_by_example,
+    faulty_files, first_faults,
+};
