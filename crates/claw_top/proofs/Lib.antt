@@ -1,3 +1,4 @@
+mod InFiles
 mod Collecting
 mod Loads
 mod Ends
