@@ -6,3 +6,6 @@ pub mod Chains
 pub mod SoundLaws
 pub mod OneTree
 pub mod OneFile
+pub mod KindsAgree
+pub mod FirstFaults
+pub mod Origins

@@ -1,5 +1,5 @@
 -- How the forms of the small sound program nest.
-use Rattle.std.proofs.Common.{◌≡◌, ℕ, List, [], ◌∷◌, ◌++◌, Option, None, Some, true, refl, sym, ap, ◌∙◌}
+use Rattle.std.proofs.Common.{◌≡◌, ℕ, List, [], ◌∷◌, Option, None, Some, true, refl, sym, ap, ◌∙◌}
 use Rattle.std.specs.Prelude.{codes, drop}
 use Rattle.fort_arith.specs.declared.op.Op.TheVariants.{Add, Mul}
 use Rattle.fort_tree.specs.declared.choice.Mode.TheVariants.{Source}

@@ -1,5 +1,5 @@
 -- Forms nest into one file at most.
-use Rattle.std.proofs.Common.{◌≡◌, ℕ, suc, ◌+◌, length, List, [], ◌∷◌, ◌++◌, Bool, true, false, ◌||◌, Option, None, Some, refl, sym, ap, subst, ◌∙◌, inl, inr}
+use Rattle.std.proofs.Common.{◌≡◌, ℕ, suc, ◌+◌, length, List, [], ◌∷◌, ◌++◌, Bool, true, false, Option, None, Some, refl, sym, ap, subst, ◌∙◌, inl, inr}
 use Rattle.std.proofs.lemmas.Bool.{false≢true}
 use Rattle.std.proofs.lemmas.List.{append_assoc, append-nil}
 use Rattle.fort_tree.specs.declared.choice.Mode.{Mode}
@@ -10,7 +10,7 @@ use Rattle.fort_tree.specs.declared.statement.Statement.{Statement}
 use Rattle.fort_tree.specs.declared.statement.Statement.TheOpen.{Statement-F}
 use Rattle.fort_tree.specs.declared.stmt.Directive.{Directive}
 use Rattle.fort_tree.specs.declared.stmt.DirectiveWord.{DirectiveWord}
-use Rattle.fort_tree.specs.declared.stmt.DirectiveWord.TheVariants.{Define, Parallelize, Forward, Fusion, Interchange, Hoist, EndHoist, Transform, EndTransform, Cache, Column, OpenMpLoop, OpenAccLoop, Routine}
+use Rattle.fort_tree.specs.declared.stmt.DirectiveWord.TheVariants.{Define, Parallelize, Forward, Fusion, Interchange, Hoist, Transform, Cache, OpenMpLoop, OpenAccLoop, Routine}
 use Rattle.fort_tree.specs.declared.stmt.Stmt.{Stmt}
 use Rattle.fort_tree.specs.declared.unit.Decl.{Decl}
 use Rattle.fort_tree.specs.declared.unit.File.{File}
@@ -20,7 +20,7 @@ use Rattle.fort_tree.specs.declared.unit.Module.{Module}
 use Rattle.fort_tree.specs.declared.unit.Unit as unit
 use Rattle.fort_tree.specs.declared.unit.Use.{Use}
 use Rattle.sound_programs.specs.Forms.{Form, Says, Directs, is_forward, is_before_loop, begins_block, is_define, is_parallelize, is_routine}
-use Rattle.sound_programs.specs.Nesting.{Inside, in_unit, Simple, assigns, calls, exits, cycles, returns, Body, done, more, One, simple, forwarded, if_action, if_then, selects, loops, directed, block, IsHeadDirective, Uses, no_more_uses, uses, directs_use, Implicit, unsaid, said, Declares, no_more_decls, declares, directs_decl, Marked, unmarked, marked, Paired, Head-part, Ends, bare, with_word, with_name, result_or_name, prefix_decl, IsUnit, subroutine, function, AreUnits, no_more_units, a_unit, Contained, contains_none, contains, IsModule, a_module, Nests_from, no_more, module_first, unit_first, Nests}
+use Rattle.sound_programs.specs.Nesting.{Inside, in_unit, Simple, assigns, calls, exits, cycles, returns, Body, done, more, One, simple, forwarded, if_action, if_then, selects, loops, directed, block, IsHeadDirective, Uses, no_more_uses, uses, directs_use, Implicit, unsaid, said, Declares, no_more_decls, declares, directs_decl, Marked, unmarked, marked, Head-part, Ends, bare, with_word, with_name, result_or_name, prefix_decl, IsUnit, subroutine, function, AreUnits, no_more_units, a_unit, Contained, contains_none, contains, IsModule, a_module, Nests_from, no_more, module_first, unit_first, Nests}
 use Rattle.sound_programs.proofs.OneTree.{ends_here_level, ends_here, body_unique, behind_first}
 
 -- ---- The forms before the first statement, read off
@@ -166,11 +166,11 @@ module _ (mode : Mode) where
   head_read : {forms rest : List Form} {lines : List Use} {decls : List Decl} {pair mark : List Directive} → Head-part mode forms lines decls pair mark rest → scan rest ≡ stop rest → IsRead forms lines decls (pair ++ mark) rest
   head_read {forms = forms} {rest = rest} {lines = lines} {decls = decls} {pair = pair} {mark = mark} h stops =
       let whole : scan forms ≡ record { lines = lines ++ []; decls = decls ++ []; marks = h.among_uses ++ (h.among_decls ++ (mark ++ [])); rest = rest } =
-          uses_scanned h.used
-          ∙ (ap (add lines [] h.among_uses) (implicit_scanned h.implicit)
-          ∙ (ap (λ x. add lines [] h.among_uses x) (declares_scanned h.declared)
-          ∙ (ap (λ x. add lines [] h.among_uses (add [] decls h.among_decls x)) (marked_scanned h.marked)
-          ∙ ap (λ x. add lines [] h.among_uses (add [] decls h.among_decls (add [] [] mark x))) stops))) in
+      uses_scanned h.used
+      ∙ (ap (add lines [] h.among_uses) (implicit_scanned h.implicit)
+      ∙ (ap (λ x. add lines [] h.among_uses x) (declares_scanned h.declared)
+      ∙ (ap (λ x. add lines [] h.among_uses (add [] decls h.among_decls x)) (marked_scanned h.marked)
+      ∙ ap (λ x. add lines [] h.among_uses (add [] decls h.among_decls (add [] [] mark x))) stops))) in
       record {
         lines_are = sym (append-nil lines) ∙ ap (λ (x : Scan). x.lines) (sym whole);
         decls_are = sym (append-nil decls) ∙ ap (λ (x : Scan). x.decls) (sym whole);

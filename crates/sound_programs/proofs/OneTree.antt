@@ -9,7 +9,7 @@ use Rattle.fort_tree.specs.declared.statement.Statement.TheOpen.{Statement-F}
 use Rattle.fort_tree.specs.declared.stmt.Arm.{Arm}
 use Rattle.fort_tree.specs.declared.stmt.Case as tree_case
 use Rattle.fort_tree.specs.declared.stmt.DirectiveWord.{DirectiveWord}
-use Rattle.fort_tree.specs.declared.stmt.DirectiveWord.TheVariants.{Define, Parallelize, Forward, Fusion, Interchange, Hoist, EndHoist, Transform, EndTransform, Cache, Column, OpenMpLoop, OpenAccLoop, Routine}
+use Rattle.fort_tree.specs.declared.stmt.DirectiveWord.TheVariants.{Forward, Fusion, Interchange, Hoist, EndHoist, Transform, EndTransform, Cache, OpenMpLoop, OpenAccLoop}
 use Rattle.fort_tree.specs.declared.stmt.Stmt.{Stmt}
 use Rattle.fort_tree.specs.declared.stmt.Stmt.TheVariants as tree
 use Rattle.sound_programs.specs.Forms.{Form, Says, Directs, is_forward, is_before_loop, begins_block, ends_block}
@@ -127,6 +127,7 @@ module _ (mode : Mode) where
 
   mutual
     unfolding ends_here_level is_end_word
+
     pub body_unique : {around : Inside} {forms rest rest' : List Form} {ss ts : List Stmt} → Body mode around forms ss rest → ends_here rest ≡ true → Body mode around forms ts rest' → ends_here rest' ≡ true → (ss ≡ ts) × (rest ≡ rest')
     body_unique done c done c' = (refl, refl)
     body_unique done c (more one body) c' = absurd (false≢true (sym (begins one) ∙ c))

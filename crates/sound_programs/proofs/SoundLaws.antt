@@ -45,11 +45,11 @@ empty_if_nowhere (a ∷ rest) none = absurd (none a (at_head a rest))
 no_head : {A : Type 0} (x : A) (xs : List A) → x ∷ xs ≡ [] → ⊥
 no_head x xs e = cc
 
-left_empty : {A : Type 0} (xs ys : List A) → xs ++ ys ≡ [] → xs ≡ []
+pub left_empty : {A : Type 0} (xs ys : List A) → xs ++ ys ≡ [] → xs ≡ []
 left_empty [] ys e = refl
 left_empty (x ∷ xs) ys e = absurd (no_head x (xs ++ ys) e)
 
-right_empty : {A : Type 0} (xs ys : List A) → xs ++ ys ≡ [] → ys ≡ []
+pub right_empty : {A : Type 0} (xs ys : List A) → xs ++ ys ≡ [] → ys ≡ []
 right_empty [] ys e = e
 right_empty (x ∷ xs) ys e = absurd (no_head x (xs ++ ys) e)
 
@@ -69,7 +69,7 @@ none_kept test (x ∷ xs) e = go (none_kept test xs) (test x) refl
     go rest true h = absurd (no_head x (filter test xs) (subst (λ b. cond b (x ∷ filter test xs) (filter test xs) ≡ []) h e))
     go rest false h = (h, rest (subst (λ b. cond b (x ∷ filter test xs) (filter test xs) ≡ []) h e))
 
-map_empty : {A B : Type 0} (f : A → B) (xs : List A) → map f xs ≡ [] → xs ≡ []
+pub map_empty : {A B : Type 0} (f : A → B) (xs : List A) → map f xs ≡ [] → xs ≡ []
 map_empty f [] e = refl
 map_empty f (x ∷ xs) e = absurd (no_head (f x) (map f xs) e)
 

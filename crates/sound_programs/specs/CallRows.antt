@@ -32,7 +32,7 @@ calls_itself = record { modules = []; units = (subroutine (codes "s") (place 1 1
 abbrev pub calls_in_circle : Program
 calls_in_circle = record { modules = (module_of (codes "m") (place 1 8) [] [] ∷ []); units = (inside 0 (subroutine (codes "s") (place 3 14) [] [] [] (call_to (codes "t") (place 4 5) (place 4 10) No_more ∷ [])) ∷ subroutine (codes "t") (place 7 12) [] (use_all (codes "m") (place 8 7) ∷ []) [] (call_to (codes "s") (place 9 3) (place 9 8) No_more ∷ []) ∷ []); order = (item.Module 0 ∷ item.Unit 1 ∷ []) }
 
--- a function that refers to itself
+-- inside a function its name is its result, and so no unit to refer to
 --
 --     integer function f(a)
 --       integer, intent(in) :: a
@@ -41,7 +41,7 @@ calls_in_circle = record { modules = (module_of (codes "m") (place 1 8) [] [] �
 abbrev pub function_refers_to_itself : Program
 function_refers_to_itself = record { modules = []; units = (function (codes "f") (place 1 18) (named (codes "a") (place 1 20) ∷ []) (named (codes "f") (place 1 18)) [] (declaration (codes "f") (place 1 1) I4 None [] None ∷ dummy (codes "a") (place 2 26) In ∷ []) (Assign (place 3 3) (Name (codes "f") (place 3 3)) (Reference (codes "f") (One (Name (codes "a") (place 3 9)) No_more) (place 3 7)) ∷ []) ∷ []); order = (item.Unit 0 ∷ []) }
 
--- with a result of another name
+-- with a result of another name a function refers to itself
 --
 --     function f(a) result(r)
 --       integer, intent(in) :: a

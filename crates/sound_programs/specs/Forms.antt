@@ -1,7 +1,7 @@
 -- The forms of a text, one for each statement and one for each directive, in the order of the text. Forms know nothing of what
 -- stands around them. A statement is given by its first level, `Statement-F`: only the action of an IF on one line is a
 -- statement inside another.
-use Rattle.std.specs.Prelude.{List, [], ◌∷◌, Option, Some, None, Bool, true, false, ◌&&◌, ◌||◌, is_some, is_none}
+use Rattle.std.specs.Prelude.{List, [], ◌∷◌, Bool, true, false, ◌&&◌, ◌||◌, is_some, is_none}
 use Rattle.fort_tree.specs.declared.choice.Mode.{Mode}
 use Rattle.fort_tree.specs.declared.choice.Mode.TheVariants.{Source, Target}
 use Rattle.fort_tree.specs.declared.expr.Expr.{Expr, out-Expr}

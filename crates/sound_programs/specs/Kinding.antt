@@ -17,7 +17,7 @@ use Rattle.claw_meaning.specs.Syntax as plain
 use Rattle.claw_meaning.specs.Syntax.{Text}
 use Rattle.claw_meaning.specs.Scope.{Entity, Unknown, Variable, Constant, Procedure, decl_named}
 use Rattle.claw_meaning.specs.Kinds.{greater, or_default}
-use Rattle.sound_programs.specs.Placed.{Expr, Numeral, Boolean, Name, Reference, Signed, Binary, Paren, Subscripts, No_more, One, Section, after_first}
+use Rattle.sound_programs.specs.Placed.{Expr, Numeral, Boolean, Name, Reference, Signed, Binary, Paren, Subscripts, No_more, One, Section}
 
 abbrev pub kind_of_decl : Option plain.Decl → Option Kind
 kind_of_decl None = None
@@ -88,8 +88,14 @@ kind_by_second No_more = Some I4
 kind_by_second (One e rest) = kind_named_by e
 kind_by_second (Section lower upper at rest) = None
 
+-- a range as first argument is a fault
+abbrev pub kind_of_int : Subscripts → Option Kind
+kind_of_int No_more = Some I4
+kind_of_int (One e rest) = kind_by_second rest
+kind_of_int (Section lower upper at rest) = None
+
 abbrev pub kind_of_intrinsic : Intrinsic → Subscripts → List (Option Kind) → Option Kind
-kind_of_intrinsic Int args kinds = kind_by_second (after_first args)
+kind_of_intrinsic Int args kinds = kind_of_int args
 kind_of_intrinsic Size args kinds = Some I4
 kind_of_intrinsic Sum args kinds = first_kind kinds
 kind_of_intrinsic Abs args kinds = common_kind kinds

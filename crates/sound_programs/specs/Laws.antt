@@ -1,18 +1,22 @@
 -- What the laws of sound programs state.
-use Rattle.std.specs.Prelude.{IsTrue, List, map, flat_map}
+use Rattle.std.specs.Prelude.{◌≡◌, IsTrue, ◌⊎◌, Some, List, map, flat_map}
 use Rattle.std.specs.List.{AllByRecursion, IsDistinct}
 use Rattle.std.specs.Str.{bytes_eq}
 use Rattle.fort_tree.specs.declared.choice.Mode.{Mode}
 use Rattle.fort_tree.specs.declared.unit.File.{File}
 use Rattle.claw_meaning.specs.Syntax.{Text}
 use Rattle.claw_meaning.specs.Scope.{Entity}
+use Rattle.claw_meaning.specs.Kinds.{kind_of, kind_of_entity}
+use Rattle.fort_arith.specs.declared.kind.Kind.{Kind}
+use Rattle.sound_programs.specs.Kinding.{kind}
 use Rattle.sound_programs.specs.CallFaults.{referrals, calls}
 use Rattle.sound_programs.specs.Links.{Reaches}
-use Rattle.sound_programs.specs.Placed.{Unit, bare_program}
+use Rattle.sound_programs.specs.Placed.{Expr, bare, Unit, bare_program}
 use Rattle.sound_programs.specs.Placing.{placed}
 use Rattle.sound_programs.specs.Scopes.{Of_unit, scopes, declared, entity_in, is_variable_or_constant, is_subroutine}
 use Rattle.sound_programs.specs.Walks.{steps_of, parts_read, bare_name, call_name}
 use Rattle.sound_programs.specs.Faults.{Found, FirstFault}
+use Rattle.sound_programs.specs.Sound.{Sound}
 
 -- each of the list
 abbrev pub Each : {A : Type 0} → List A → (A → Type 0) → Type 0
@@ -43,3 +47,12 @@ CallsAreKnown file =
 -- a sound program has no first fault
 abbrev pub HasNoFirstFault : Mode → File → Type 0
 HasNoFirstFault mode file = (fault : Found) → ¬ (FirstFault mode file fault)
+
+-- a program into which forms nest is sound or has a first fault
+abbrev pub SoundOrFaulty : Mode → File → Type 0
+SoundOrFaulty mode file = Sound mode file ⊎ ((fault : Found) × FirstFault mode file fault)
+
+-- Where no fault leaves the kind of an expression open, it is the kind that the meaning gives it.
+abbrev pub KindsAgree : Type 0
+KindsAgree =
+    (entity : Text → Entity) (e : Expr) (k : Kind) → kind entity e ≡ Some k → kind_of (λ x. kind_of_entity (entity x)) (bare e) ≡ k

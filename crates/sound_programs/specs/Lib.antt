@@ -28,3 +28,5 @@ pub mod ArgumentRows
 pub mod FileRows
 pub mod SoundRow
 pub mod Laws
+pub mod Visible
+pub mod VisibleRow

@@ -49,7 +49,7 @@ assigned_function = record { modules = []; units = (subroutine (codes "s") (plac
 abbrev pub assigned_intrinsic : Program
 assigned_intrinsic = record { modules = []; units = (subroutine (codes "s") (place 1 12) (named (codes "x") (place 1 14) ∷ []) [] (dummy (codes "x") (place 2 29) InOut ∷ []) (Assign (place 3 3) (Name (codes "max") (place 3 3)) (Numeral 3 None (place 3 9)) ∷ []) ∷ []); order = (item.Unit 0 ∷ []) }
 
--- a name in a subscript, and the DO variable of no declaration is one name more
+-- a name in a subscript of a left side
 --
 --     subroutine s(q)
 --       integer, intent(inout) :: q(3)

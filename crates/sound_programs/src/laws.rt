@@ -1,17 +1,19 @@
 //! Laws of the definitions, and what holds of every sound program.
 
-ghost use Rattle.std.specs.Prelude.{◌≡◌, ◌↔◌, IsTrue, List};
+ghost use Rattle.std.specs.Prelude.{◌≡◌, ◌↔◌, IsTrue, List, is_some};
 ghost use Rattle.fort_tree.specs.declared.choice.Mode.{Mode};
 ghost use Rattle.fort_tree.specs.declared.unit.File.{File};
 ghost use Rattle.claw_meaning.specs.Plain.{plain_file};
-ghost use Rattle.claw_meaning.specs.Syntax.{Text};
+ghost use Rattle.claw_meaning.specs.Scope.{module_gives};
+ghost use Rattle.claw_meaning.specs.Syntax.{Text, Program as Plain};
 ghost use Rattle.sound_programs.specs.Forms.{Form};
 ghost use Rattle.sound_programs.specs.Nesting.{Nests};
-ghost use Rattle.sound_programs.specs.Laws.{CallsAreKnown, DeclaresOnce, HasNoCycle, HasNoFirstFault, NamesAreKnown};
+ghost use Rattle.sound_programs.specs.Laws.{CallsAreKnown, DeclaresOnce, HasNoCycle, HasNoFirstFault, KindsAgree, NamesAreKnown, SoundOrFaulty};
 ghost use Rattle.sound_programs.specs.Links.{Links, Reaches, leads};
 ghost use Rattle.sound_programs.specs.Placed.{Program, bare_program};
 ghost use Rattle.sound_programs.specs.Placing.{placed};
-ghost use Rattle.sound_programs.specs.Sound.{Sound};
+ghost use Rattle.sound_programs.specs.Scopes.{is_known, origin};
+ghost use Rattle.sound_programs.specs.Sound.{IsNested, Sound};
 ghost use Rattle.sound_programs.specs.Writing.{file_of};
 
 /// The placed tree of a file, its places forgotten, is the plain tree on which its meaning is defined.
@@ -22,6 +24,11 @@ pub fn placed_trees_are_plain_trees_with_places()
 /// Each placed tree is the placed tree of a file.
 pub fn placed_trees_are_of_files()
     ensures { (program : Program) → placed (file_of program) ≡ program }
+{}
+
+/// A module gives something under a name exactly where some module is the one that declares it.
+pub fn what_modules_give_has_an_origin()
+    ensures { (program : Plain) (m x : Text) → is_known (module_gives program m x) ≡ is_some (origin program m x) }
 {}
 
 /// Forms nest into one file at most, its places included.
@@ -47,7 +54,13 @@ pub fn names_of_sound_programs()
     ensures called { (mode : Mode) (file : File) → Sound mode file → CallsAreKnown file }
 {}
 
-/// A sound program has no first fault.
-pub fn sound_programs_have_no_first_fault()
-    ensures { (mode : Mode) (file : File) → Sound mode file → HasNoFirstFault mode file }
+/// A program into which forms nest is sound or has a first fault, and never both.
+pub fn sound_or_a_first_fault()
+    ensures either { (mode : Mode) (file : File) → IsNested mode file → SoundOrFaulty mode file }
+    ensures never_both { (mode : Mode) (file : File) → Sound mode file → HasNoFirstFault mode file }
+{}
+
+/// Where no fault leaves the kind of an expression open, it is the kind that the meaning gives it.
+pub fn known_kinds_are_those_of_the_meaning()
+    ensures { KindsAgree }
 {}

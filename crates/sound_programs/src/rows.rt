@@ -7,10 +7,16 @@ ghost use Rattle.sound_programs.specs.RankRows.{RankRows};
 ghost use Rattle.sound_programs.specs.ArgumentRows.{ArgumentRows};
 ghost use Rattle.sound_programs.specs.SoundRow.{SoundRow};
 ghost use Rattle.sound_programs.specs.FileRows.{FaultyFiles, FirstFaults};
+ghost use Rattle.sound_programs.specs.VisibleRow.{VisibleRow};
 
 /// A module with a PARAMETER and a function, a unit that uses both and calls another: its forms nest, and it is sound.
 pub fn a_sound_program()
     ensures { SoundRow }
+{}
+
+/// What names are in scopes: declared there, in a module that is used or around, external, hidden.
+pub fn names_by_example()
+    ensures { VisibleRow }
 {}
 
 /// Undeclared names, names declared twice, USE, calls of no unit, DO variables, INTENT.
