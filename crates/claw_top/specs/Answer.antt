@@ -1,6 +1,8 @@
 -- The answers of a run: a status, and the text that goes with it.
-use Rattle.std.specs.Prelude.{ℕ, List, ◌++◌, Ok, Err, codes, decimal}
+use Rattle.std.specs.Prelude.{ℕ, List, [], ◌++◌, Ok, Err, codes, slice_get, unwrap_or}
 use Rattle.std.specs.declared.result.Result.{Result}
+use Rattle.fort_tree.specs.declared.fault.Fault.{Fault}
+use Rattle.fort_tree.specs.Report.{report_of as line_of}
 
 abbrev pub Answer : Type 0
 Answer = ℕ × List ℕ
@@ -17,15 +19,15 @@ cannot_read name = (3, codes "cannot read " ++ (name ++ codes "\n"))
 abbrev pub no_memory : Answer
 no_memory = (6, codes "no memory\n")
 
--- the file has more bytes than a source may have
+-- too many files are named, or they have more bytes than the sources may have
 abbrev pub too_long : Answer
 too_long = (9, codes "too long\n")
 
--- the report of a fault in a line of the named file, at its first column
-abbrev pub report_of : List ℕ → ℕ → List ℕ
-report_of name line = name ++ (codes ":" ++ (decimal line ++ codes ":1: E20 not in the profile 13\n"))
+-- the report of a fault in one of the named files
+abbrev pub report_of : Fault → List (List ℕ) → List ℕ
+report_of fault names = line_of fault (unwrap_or (slice_get names fault.place.file) [])
 
--- the answer for what is made of the named file
-abbrev pub compiled_answer : List ℕ → Result (List ℕ) ℕ → Answer
-compiled_answer name (Ok text) = (0, text)
-compiled_answer name (Err line) = (1, report_of name line)
+-- the answer for what is made of the named files
+abbrev pub compiled_answer : List (List ℕ) → Result (List ℕ) Fault → Answer
+compiled_answer names (Ok text) = (0, text)
+compiled_answer names (Err fault) = (1, report_of fault names)

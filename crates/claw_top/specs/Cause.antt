@@ -1,27 +1,56 @@
 -- Why a run ends as it does. A shelf is seen by what it tells of its files and by its two counts.
-use Rattle.std.specs.Prelude.{◌≡◌, ℕ, ◌+◌, ◌-◌, ◌^◌, ◌≤◌, ◌⊎◌, List, length, min, Some, Ok, Err, IfSome, ⊤}
+use Rattle.std.specs.Prelude.{◌≡◌, ℕ, ◌+◌, ◌-◌, ◌^◌, ◌<◌, ◌≤◌, ◌⊎◌, List, ◌∷◌, ◌++◌, length, map, min, Some, None, Ok, Err, IfSome, IsSomeAnd, ⊤}
 use Rattle.std.specs.declared.option.Option.{Option}
-use Rattle.outside.specs.Counts.{Rose}
-use Rattle.outside.specs.Files.{Files, file_at, Lacks, MayBeTooLong}
+use Rattle.outside.specs.Counts.{Rose, RoseBy}
+use Rattle.outside.specs.Files.{Files, file_at, Lacks}
 use Rattle.fort_spell.specs.Units.{layout_of}
-use Rattle.claw_top.specs.Limits.{most_bytes}
+use Rattle.claw_top.specs.Limits.{most_files, most_bytes, total_length}
 use Rattle.claw_top.specs.Compile.{Compiles}
+use Rattle.claw_top.specs.Outcome.{listed_of}
 use Rattle.claw_top.specs.declared.end.End.{End}
 use Rattle.claw_top.specs.declared.end.End.TheVariants.{Program, Fault, Usage, CannotRead, TooLong, NoMemory}
 
--- The named file was read whole, and these are its bytes: where files are told, those of the told one.
-pub record WasRead (files : Option Files) (read_before read_now : ℕ) (name source : List ℕ) : Type 0 where
-  pub small : length source ≤ most_bytes
-  pub told : IfSome files (λ fs. file_at fs name ≡ Some source)
-  pub counted : min read_now (2 ^ 64 - 1) ≡ min (read_before + length source) (2 ^ 64 - 1)
+-- These are the bytes of the named files, one after another, where the files are told.
+abbrev pub AreTold : Option Files → List (List ℕ) → List (List ℕ) → Type 0
+AreTold files names sources = IfSome files (λ fs. map (file_at fs) names ≡ map (λ source. Some source) sources)
+
+-- The named files were read whole, and these are their bytes.
+pub record WereRead (files : Option Files) (read_before read_now : ℕ) (names sources : List (List ℕ)) : Type 0 where
+  pub few : length names ≤ most_files
+  pub small : total_length sources ≤ most_bytes
+  pub each : length sources ≡ length names
+  pub told : AreTold files names sources
+  pub counted : min read_now (2 ^ 64 - 1) ≡ min (read_before + total_length sources) (2 ^ 64 - 1)
+
+-- The loads came to this file: those before it were read whole, and these are their bytes.
+pub record Reaches (files : Option Files) (names : List (List ℕ)) (name : List ℕ) (sources : List (List ℕ)) : Type 0 where
+  pub few : length names ≤ most_files
+  pub before : List (List ℕ)
+  pub after : List (List ℕ)
+  pub place : names ≡ before ++ name ∷ after
+  pub small : total_length sources ≤ most_bytes
+  pub each : length sources ≡ length before
+  pub told : AreTold files before sources
+
+-- With the told file of this name the bytes are more than the sources may have.
+abbrev pub Exceeds : Files → List ℕ → List (List ℕ) → Type 0
+Exceeds files name sources = IsSomeAnd (file_at files name) (λ text. most_bytes < total_length sources + length text)
+
+-- With the file of this name the bytes are more than the sources may have. Where files are not told, so many were read.
+abbrev pub IsTooMuch : Option Files → ℕ → ℕ → List ℕ → List (List ℕ) → Type 0
+IsTooMuch None read_before read_now name sources = RoseBy (most_bytes + 1) read_before read_now
+IsTooMuch (Some files) read_before read_now name sources = Exceeds files name sources
 
 -- An end has its cause.
-abbrev pub HasCause : Option Files → ℕ → ℕ → ℕ → ℕ → List ℕ → End → Type 0
-HasCause files before now read_before read_now name (Program file) =
-    (source : List ℕ) × WasRead files read_before read_now name source × Compiles source (Ok (layout_of file))
-HasCause files before now read_before read_now name (Fault file line) =
-    (file.now ≡ name) × ((source : List ℕ) × WasRead files read_before read_now name source × Compiles source (Err line))
-HasCause files before now read_before read_now name Usage = ⊥
-HasCause files before now read_before read_now name (CannotRead file) = (file.now ≡ name) × (Rose before now ⊎ Lacks files name)
-HasCause files before now read_before read_now name TooLong = MayBeTooLong files name most_bytes read_before read_now
-HasCause files before now read_before read_now name NoMemory = ⊤
+abbrev pub HasCause : Option Files → ℕ → ℕ → ℕ → ℕ → List (List ℕ) → End → Type 0
+HasCause files before now read_before read_now names (Program file) =
+    (sources : List (List ℕ)) × WereRead files read_before read_now names sources × Compiles sources (Ok (layout_of file))
+HasCause files before now read_before read_now names (Fault fault listed) =
+    (sources : List (List ℕ)) × WereRead files read_before read_now names sources × Compiles sources (Err fault)
+    × (fault.place.file < length names) × (listed ≡ listed_of names)
+HasCause files before now read_before read_now names Usage = ⊥
+HasCause files before now read_before read_now names (CannotRead file) =
+    (sources : List (List ℕ)) × Reaches files names file.now sources × (Rose before now ⊎ Lacks files file.now)
+HasCause files before now read_before read_now names TooLong = (most_files < length names)
+    ⊎ ((name : List ℕ) × (sources : List (List ℕ)) × Reaches files names name sources × IsTooMuch files read_before read_now name sources)
+HasCause files before now read_before read_now names NoMemory = ⊤

@@ -1,13 +1,6 @@
 pub mod Words
 pub mod Limits
-pub mod ReadingTokens
-pub mod ReadingForms
-pub mod ReadingUnit
-pub mod ReadingText
-pub mod ReadingSteps
-pub mod ReadingUnitSteps
-pub mod ReadingTextSteps
-pub mod ReadingScalars
+pub mod Sources
 pub mod Translation
 pub mod Compile
 pub mod Answer

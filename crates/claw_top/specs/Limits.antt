@@ -1,6 +1,14 @@
--- Limits of a source.
-use Rattle.std.specs.Prelude.{ℕ}
+-- Limits of the sources.
+use Rattle.std.specs.Prelude.{ℕ, List, length, sum_by}
 
--- A source has at most so many bytes.
+-- A request names at most so many files.
+abbrev pub most_files : ℕ
+most_files = 64
+
+-- The sources have at most so many bytes together.
 abbrev pub most_bytes : ℕ
 most_bytes = 4194304
+
+-- the bytes of the sources together
+abbrev pub total_length : List (List ℕ) → ℕ
+total_length sources = sum_by length sources

@@ -1,4 +1,4 @@
--- What a translated text owes its source.
+-- What a translated text owes its sources.
 use Rattle.std.specs.Prelude.{◌≡◌, ℕ, List, [], ◌∷◌, Bool, false}
 use Rattle.fort_tree.specs.declared.choice.Target.TheVariants.{Cpu}
 use Rattle.fort_tree.specs.declared.choice.Directives.TheVariants.{Plain}
@@ -13,8 +13,10 @@ use Rattle.claw_meaning.specs.Erasure.{Erased}
 use Rattle.claw_meaning.specs.Spread.{Spread}
 use Rattle.claw_meaning.specs.Kept.{Kept}
 use Rattle.fort_spell.specs.Units.{layout_of}
-use Rattle.claw_top.specs.declared.reading.Reading.TheVariants.{Empty, Unit as TheUnit, Refused}
-use Rattle.claw_top.specs.ReadingText.{IsReading}
+use Rattle.fort_tree.specs.declared.statement.Line.{Line}
+use Rattle.scalar_reader.specs.declared.reader.Reading.TheVariants.{Empty, Unit as TheUnit}
+use Rattle.scalar_reader.specs.Reading.{IsReading}
+use Rattle.claw_top.specs.Sources.{HaveLines}
 
 -- the program of no unit, and of one external unit
 abbrev pub no_unit : File
@@ -23,19 +25,19 @@ no_unit = record { modules = []; units = []; order = [] }
 abbrev pub one_unit : TreeUnit → File
 one_unit u = record { modules = []; units = u ∷ []; order = item.Unit 0 ∷ [] }
 
--- The source spells this program. The files of a request are numbered from 0.
-pub data IsSpelled (source : List ℕ) : File → Type 0 where
-  nothing : IsReading 0 source Empty → IsSpelled source no_unit
-  unit : (u : TreeUnit) → IsReading 0 source (TheUnit u) → IsSpelled source (one_unit u)
+-- The sources spell this program.
+pub data AreSpelled (sources : List (List ℕ)) : File → Type 0 where
+  nothing : (lines : List Line) → HaveLines sources lines → IsReading lines Empty → AreSpelled sources no_unit
+  unit : (lines : List Line) (u : TreeUnit) → HaveLines sources lines → IsReading lines (TheUnit u) → AreSpelled sources (one_unit u)
 
--- The source spells one program, and the text is the layout of another. That one has the interface of the source's program
+-- The sources spell one program, and the text is the layout of another. That one has the interface of the sources' program
 -- with its wide variables, erases to it, and has its loops over the columns where they must stand; and for every number of
--- columns, every well-typed input and every order of parallel iterations it keeps what the source's program does.
-pub record Translation (source text : List ℕ) : Type 0 where
+-- columns, every well-typed input and every order of parallel iterations it keeps what the sources' program does.
+pub record Translation (sources : List (List ℕ)) (text : List ℕ) : Type 0 where
   pub directed : File
   pub written : File
   pub wide : ℕ → Text → Bool
-  pub spelled : IsSpelled source directed
+  pub spelled : AreSpelled sources directed
   pub layout : text ≡ layout_of written
   pub interface : Interface (plain_file directed) (plain_file written) wide
   pub erased : Erased (plain_file directed) (plain_file written) wide

@@ -1,19 +1,20 @@
 // How a run ends.
 
-use fort_tree::File;
+use fort_tree::{Fault, File};
+use outside::FileList;
 
 /// How a run ends: what stands before the first put.
 #[derive(Debug, Drop)]
 pub(crate) enum End<'a> {
-    /// The source has no fault, and this is the program that is made of it.
+    /// The sources have no fault, and this is the program that is made of them.
     Program(File),
-    /// The first fault of the source stands in this line of the named file, counted from 1.
-    Fault(&'a str, u32),
+    /// The first fault of the sources, and the names of their files.
+    Fault(Fault, FileList),
     /// The words are no request.
     Usage,
     /// The named file cannot be read.
     CannotRead(&'a str),
-    /// The source has more bytes than a source may have.
+    /// There are too many files, or more bytes than the sources may have.
     TooLong,
     /// Memory was refused.
     NoMemory,

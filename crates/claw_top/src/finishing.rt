@@ -1,21 +1,22 @@
 // What is put.
 ghost use Rattle.std.specs.Prelude.{◌≡◌, OnOk, OnErr};
-ghost use Rattle.claw_top.specs.Outcome.{answer_of};
+ghost use Rattle.claw_top.specs.Outcome.{answer_of, IsListed};
 ghost use Rattle.claw_top.specs.Ending.{PutsWhere};
 
 use crate::end::End;
-use crate::reporting::{put_report, put_unreadable};
-use fort_spell::spell;
+use crate::reporting::put_unreadable;
+use fort_spell::{report, spell};
 use outside::{Failed, Sink, put_all};
 
 // Puts the text of an end where it goes, and gives its status, or 4 where that sink failed. It takes no
 // memory.
 pub(crate) fn finish<O: Sink, E: Sink>(end: &End<'_>, out: &mut O, err: &mut E) -> u8
+    requires { IsListed end.now }
     ensures { PutsWhere O.taken O.faults out.old out.new E.taken E.faults err.old err.new (answer_of end.now) result }
 {
     match end {
         End::Program(file) => status_of(spell(file, out), 0),
-        End::Fault(name, line) => status_of(put_report(name, *line, err), 1),
+        End::Fault(fault, files) => status_of(report(fault, files, err), 1),
         End::Usage => status_of(
             put_all(
                 err,

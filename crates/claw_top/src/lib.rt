@@ -11,16 +11,13 @@ mod compiling;
 mod deciding;
 mod end;
 mod finishing;
-mod read_law;
-mod reading;
+mod loading;
 mod reporting;
 mod top;
-mod words;
 
-pub use read_law::read_units_are_column_scalars;
 pub use top::claw;
 
 #[cfg(test)]
 mod tests;
 #[cfg(test)]
-mod tests_reading;
+mod tests_compiling;

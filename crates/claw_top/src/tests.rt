@@ -87,25 +87,33 @@ fn refusals(rt: HostRuntime) -> Result<(), Fail> {
     Ok(())
 }
 
-// Words that are no request, and files that are not there.
+// Words that are a request and words that are none, and files that are not there.
 #[test]
 fn words_and_files(rt: HostRuntime) -> Result<(), Fail> {
     let usage = "usage: claw translate, check, run, run-target or gen\n";
-    let cases: [(&[&str], u8, &str); 10] = [
-        (
-            &["claw", "translate", "two.f90"],
-            3,
-            "cannot read two.f90\n",
-        ),
+    let cases: [(&[&str], u8, &str); 14] = [
+        (&["claw", "translate", "a", "one.f90"], 3, "cannot read a\n"),
+        (&["claw", "translate", "one.f90", "a"], 3, "cannot read a\n"),
         (&["claw", "translate", "-"], 3, "cannot read -\n"),
-        (&["claw", "translate", ""], 3, "cannot read \n"),
+        (&["claw", "translate", "--", "-x"], 3, "cannot read -x\n"),
+        (&["claw", "translate", "--target=cpu", "one.f90"], 0, ""),
+        (
+            &["claw", "--directive", "none", "translate", "one.f90"],
+            0,
+            "",
+        ),
         (&[], 2, usage),
         (&["claw"], 2, usage),
         (&["claw", "translate"], 2, usage),
-        (&["translate", "one.f90"], 2, usage),
+        (&["claw", "check"], 2, usage),
         (&["claw", "check", "one.f90"], 2, usage),
-        (&["claw", "translate", "--help"], 2, usage),
-        (&["claw", "translate", "one.f90", "one.f90"], 2, usage),
+        (&["claw", "translate", "-x"], 2, usage),
+        (&["claw", "translate", "one.f90", "--help"], 2, usage),
+        (
+            &["claw", "translate", "one.f90", "--target", "gpu"],
+            2,
+            usage,
+        ),
     ];
     for (words, status, text) in cases {
         let mut shelf = shelf_of(rt.alloc(), SOURCE)?;
@@ -117,8 +125,62 @@ fn words_and_files(rt: HostRuntime) -> Result<(), Fail> {
             "{text}"
         );
         assert!(rt; err.text() == text.as_bytes(), "{text}");
-        assert!(rt; out.text().is_empty(), "{text}");
+        assert!(rt; (status == 0) == !out.text().is_empty(), "{text}");
     }
+    Ok(())
+}
+
+// The report of a fault in the second file has its name.
+#[test]
+fn second_file(rt: HostRuntime) -> Result<(), Fail> {
+    let mut files = FileList::new(rt.alloc());
+    files.push("one.f90", SOURCE.as_bytes())?;
+    files.push("two.f90", b"end\n")?;
+    let mut shelf = MemShelf::new(files, Numbers::new(rt.alloc()));
+    let mut out = sink(rt.alloc())?;
+    let mut err = sink(rt.alloc())?;
+    let words = ["claw", "translate", "one.f90", "two.f90"];
+    assert_eq!(rt; claw(rt.alloc(), &words, &mut shelf, &mut out, &mut err), 1);
+    assert!(rt; err.text() == b"two.f90:1:1: E20 not in the profile 13\n".as_slice());
+    assert!(rt; out.text().is_empty());
+    Ok(())
+}
+
+// The first of 64 files is looked for, and 65 files are too many.
+#[test]
+fn many_files(rt: HostRuntime) -> Result<(), Fail> {
+    let mut words = vec![in rt.alloc(); "a"; 66]?;
+    words[0] = "claw";
+    words[1] = "translate";
+    for (status, text) in [(3u8, "cannot read a\n"), (9, "too long\n")] {
+        let mut shelf = shelf_of(rt.alloc(), SOURCE)?;
+        let mut out = sink(rt.alloc())?;
+        let mut err = sink(rt.alloc())?;
+        assert_eq!(rt;
+            claw(rt.alloc(), &words, &mut shelf, &mut out, &mut err),
+            status
+        );
+        assert!(rt; err.text() == text.as_bytes());
+        assert!(rt; out.text().is_empty());
+        words.push("a")?;
+    }
+    Ok(())
+}
+
+// The room that a file leaves is all that the next one has, and a file behind too many bytes is not looked for.
+#[test]
+fn room_left(rt: HostRuntime) -> Result<(), Fail> {
+    let source = vec![in rt.alloc(); b'\n'; 4194304]?;
+    let mut files = FileList::new(rt.alloc());
+    files.push("long.f90", &source)?;
+    files.push("one.f90", b"\n")?;
+    let mut shelf = MemShelf::new(files, Numbers::new(rt.alloc()));
+    let mut out = sink(rt.alloc())?;
+    let mut err = sink(rt.alloc())?;
+    let words = ["claw", "translate", "long.f90", "one.f90", "a"];
+    assert_eq!(rt; claw(rt.alloc(), &words, &mut shelf, &mut out, &mut err), 9);
+    assert!(rt; err.text() == b"too long\n".as_slice());
+    assert!(rt; out.text().is_empty());
     Ok(())
 }
 

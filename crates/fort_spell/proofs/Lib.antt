@@ -2,3 +2,4 @@ pub mod Streams
 pub mod Nodes
 pub mod Forms
 pub mod Parts
+pub mod Reports

@@ -5,3 +5,4 @@ pub mod Expressions
 pub mod Statements
 pub mod Units
 pub mod Stream
+pub mod Report

@@ -7,10 +7,12 @@ mod line;
 mod lists;
 mod mark;
 mod put;
+mod reporting;
 mod statements;
 mod text;
 mod units;
 
+pub use reporting::report;
 pub use text::spell;
 
 #[cfg(test)]

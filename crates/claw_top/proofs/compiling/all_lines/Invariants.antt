@@ -1,0 +1,11 @@
+use Rattle.std.proofs.Common.{◌≡◌, take}
+use Rattle.claw_top.specs.Outcome.{bytes_of}
+use Rattle.claw_top.specs.Sources.{HaveLines, AreBefore}
+use Rattle.claw_top.proofs.compiling.all_lines.Given as goal
+
+abbrev pub invariant-loop-source : goal.invariant-loop-source
+invariant-loop-source l = record {
+  file : l.file ≡ l.source-index;
+  lines : HaveLines (bytes_of (take l.source-index l.sources)) l.all;
+  in_files : AreBefore l.source-index l.all;
+}

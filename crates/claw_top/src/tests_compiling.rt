@@ -1,0 +1,163 @@
+ghost use Rattle.std.specs.Prelude.{◌≤◌, length, IfOk};
+
+use crate::compiling::{Compiled, compile};
+use fort_tree::{Code, Fault, NoMemory};
+use std::alloc::Global;
+
+const SOURCE: &str =
+    "! comment\nsubroutine s(a) ! dummy\n  integer, intent(out) &\n    :: a\n!$claw define dimension c(1:n) &\n!$claw parallelize data(a)\n  a = 1; a = a + &\n  2\nend subroutine s\n";
+
+// The bytes of a small text.
+fn bytes_of(alloc: Global, text: &str) -> Result<Vec<u8>, NoMemory>
+    ensures { IfOk result (λ bytes. length bytes.items ≤ 2000000) }
+{
+    let bytes = text.as_bytes();
+    if bytes.len() > 2000000 {
+        return Err(NoMemory);
+    }
+    Ok(Vec::from_slice(alloc, bytes)?)
+}
+
+// The fault of one source, if there is one.
+fn fault_of(alloc: Global, text: &str) -> Result<Option<Fault>, NoMemory> {
+    let mut sources = Vec::new(alloc);
+    sources.push(bytes_of(alloc, text)?)?;
+    Ok(match compile(alloc, &sources)? {
+        Compiled::Program(_) => None,
+        Compiled::Fault(fault) => Some(fault),
+    })
+}
+
+// The fault of two sources, if there is one.
+fn fault_of_two(alloc: Global, first: &str, second: &str) -> Result<Option<Fault>, NoMemory> {
+    let mut sources = Vec::new(alloc);
+    sources.push(bytes_of(alloc, first)?)?;
+    sources.push(bytes_of(alloc, second)?)?;
+    Ok(match compile(alloc, &sources)? {
+        Compiled::Program(_) => None,
+        Compiled::Fault(fault) => Some(fault),
+    })
+}
+
+// One source, and the line of its fault, or 0 where a program is made.
+#[test]
+fn one_source(rt: HostRuntime) {
+    let cases = [
+        ("", 0),
+        (" \n\t\n", 0),
+        (SOURCE, 0),
+        (
+            "SUBROUTINE s(A)\n\n\tInteger , Intent ( In ) :: a\n!$CLAW Define Dimension c(1:n)\tParallelize Data(a)\nEnd Subroutine",
+            0,
+        ),
+        (
+            "subroutine s(a)\nimplicit none\ninteger,intent(out)::a\n!$claw define dimension c(1:n) parallelize data(a)\na=-1*a+2\nend subroutine s\n",
+            0,
+        ),
+        ("module m\n", 1),
+        ("subroutine s(a)\nimplicit none\nimplicit none\n", 3),
+        ("subroutine s(a)\n\nend subroutine\n", 3),
+        ("subroutine s(a)\ninteger, intent(in) :: a\n", 2),
+        ("subroutine s(a)\ninteger, intent(in) :: a;\n", 2),
+        ("subroutine s(a)\ninteger, intent(in) :: &\n", 2),
+        (
+            "subroutine s(a)\ninteger, intent(in) &\n!$claw define dimension c(1:n) parallelize data(a)\n:: a\nend subroutine",
+            3,
+        ),
+        ("subroutine s(if)\n", 1),
+        ("subroutine s(claw_a)\n", 1),
+        (
+            "subroutine s(a)\ninteger, intent(in) :: a, claws\n!$claw define dimension c(1:n) parallelize data(a)\nend subroutine",
+            1,
+        ),
+        (
+            "subroutine s(a,b)\ninteger, intent(out) :: a\n!$claw define dimension c(1:n) parallelize data(a,b)\nend subroutine",
+            1,
+        ),
+        (
+            "subroutine s(a,a)\ninteger, intent(out) :: a\n!$claw define dimension c(1:n) parallelize data(a)\nend subroutine",
+            1,
+        ),
+        (
+            "subroutine s(a)\ninteger, intent(out) :: a, a\n!$claw define dimension c(1:n) parallelize data(a)\nend subroutine",
+            1,
+        ),
+        (
+            "\nsubroutine s(a)\ninteger, intent(out) :: a\n!$claw define dimension c(1:n) parallelize data(a)\na=b\nend subroutine",
+            2,
+        ),
+        (
+            "subroutine s(a)\ninteger, intent(in) :: a\n!$claw define dimension c(1:n) parallelize data(a)\na=1\nend subroutine",
+            1,
+        ),
+        (
+            "subroutine s(a)\ninteger, intent(out) :: a\n!$claw define dimension c(1:c) parallelize data(a)\nend subroutine",
+            1,
+        ),
+        (
+            "subroutine s(a)\ninteger, intent(out) :: a\n!$claw define dimension s(1:n) parallelize data(a)\nend subroutine",
+            1,
+        ),
+        (
+            "subroutine s(a)\ninteger, intent(out) :: a\n!$claw define dimension c(1:n) parallelize data(a,a)\nend subroutine",
+            1,
+        ),
+        (
+            "subroutine s(a)\ninteger, intent(out) :: a\n!$claw define dimension c(1:n) parallelize data(a)\nend subroutine t",
+            1,
+        ),
+        (
+            "subroutine s(a)\ninteger, intent(out) :: a\n!$claw define dimension c(2147483648:n) parallelize data(a)\nend subroutine",
+            3,
+        ),
+        (
+            "subroutine s(a)\ninteger, intent(out) :: a\n!$claw define dimension c(1_4:n) parallelize data(a)\nend subroutine",
+            3,
+        ),
+        (
+            "subroutine s(a)\ninteger, intent(out) :: a\n!$claw define dimension c(1:n) parallelize data(a)\na=1 +\nend subroutine",
+            4,
+        ),
+        (
+            "subroutine s(a)\ninteger, intent(out) :: a\n!$claw define dimension c(1:n) parallelize data(a)\nend subroutine\na=1",
+            5,
+        ),
+        ("subroutine s(a)\na = #\n", 2),
+    ];
+
+    for (text, line) in cases {
+        let fault = fault_of(rt.alloc(), text).expect(&rt, "room");
+        assert_eq!(rt; fault.map_or(0, |fault| fault.place.line), line, "{text}");
+    }
+}
+
+// Two sources, and the code, the file and the line of their fault.
+#[test]
+fn two_sources(rt: HostRuntime) {
+    let cases = [
+        (SOURCE, SOURCE, Code::E20, 1, 2),
+        (
+            "subroutine s(a)\ninteger, intent(out) :: a\n!$claw define dimension c(1:n) parallelize data(a)\n",
+            "\nend subroutine\n",
+            Code::E20,
+            1,
+            2,
+        ),
+        ("subroutine s(a)\n", "", Code::E20, 0, 1),
+        ("module m\n", "a = #\n", Code::E03, 1, 1),
+        ("a = #\n", "#\n", Code::E03, 0, 1),
+    ];
+
+    for (first, second, code, file, line) in cases {
+        let fault = fault_of_two(rt.alloc(), first, second)
+            .expect(&rt, "room")
+            .expect(&rt, "fault");
+        assert!(rt; fault.code == code && fault.place.file == file && fault.place.line == line);
+    }
+}
+
+#[test]
+fn second_source_alone(rt: HostRuntime) {
+    let fault = fault_of_two(rt.alloc(), "", SOURCE).expect(&rt, "room");
+    assert!(rt; fault.is_none());
+}
