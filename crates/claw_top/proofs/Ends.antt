@@ -1,5 +1,5 @@
 -- How a run ends, from what was decided and what was put.
-use Rattle.std.proofs.Common.{◌≡◌, ◌≢◌, ◌∙◌, ℕ, ◌<◌, ◌≤◌, ◌⊎◌, List, [], length, Bool, true, false, refl, ap, sym, subst, arith, Ok, Err, OnOk, OnErr, Some, None, inl, inr, IfSome, IfNone, IsSomeAnd, slice_get}
+use Rattle.std.proofs.Common.{◌≡◌, ◌≢◌, ◌∙◌, ℕ, ◌<◌, ◌⊎◌, List, [], length, Bool, true, false, refl, ap, sym, subst, arith, Ok, Err, OnOk, OnErr, Some, None, inl, inr, IfSome, IfNone, IsSomeAnd, slice_get}
 use Rattle.std.specs.Prelude.{MatchBool, ◌==◌, unwrap_or}
 use Rattle.std.specs.Option.{option_map}
 use Rattle.std.specs.declared.option.Option.{Option}

@@ -9,7 +9,7 @@ use Rattle.outside.proofs.Puts.{Rose-later}
 use Rattle.claw_words.specs.Command.{texts_of}
 use Rattle.claw_top.specs.Outcome.{bytes_of}
 use Rattle.std.proofs.lemmas.List.Sums.{sum_by_push, sum_by-cons}
-use Rattle.outside.specs.Counts.{Rose, RoseBy}
+use Rattle.outside.specs.Counts.{Rose}
 use Rattle.outside.specs.Files.{Files, file_at, Lacks, Loaded, MayBeTooLong}
 use Rattle.claw_top.specs.Limits.{most_files, most_bytes, total_length}
 use Rattle.claw_top.specs.Cause.{AreTold, WereRead, Reaches, Exceeds, IsTooMuch}

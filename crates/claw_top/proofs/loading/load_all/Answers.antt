@@ -1,4 +1,4 @@
-use Rattle.std.proofs.Common.{◌≡◌, ◌∙◌, ◌++◌, ◌∷◌, [], List, Vec, ℕ, Bool, ap, suc, take, drop, length, arith, rules, inr, slice_index_or}
+use Rattle.std.proofs.Common.{◌≡◌, ◌∙◌, ◌++◌, ◌∷◌, [], ap, suc, take, drop, length, arith, rules, inr, slice_index_or}
 use Rattle.std.specs.Prelude.{not}
 use Rattle.claw_words.specs.Command.{texts_of}
 use Rattle.claw_top.specs.Outcome.{bytes_of}
