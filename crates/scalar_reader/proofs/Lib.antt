@@ -1,3 +1,4 @@
+mod Found
 mod LineForms
 mod Lists
 mod NameLists

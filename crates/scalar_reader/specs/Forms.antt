@@ -1,11 +1,12 @@
 -- The forms of a line of the language of column scalars, as the tokens that they write.
-use Rattle.std.specs.Prelude.{ℕ, ◌≡◌, ◌≢◌, Bool, true, false, ◌&&◌, not, cond, nat_le, List, [], ◌∷◌, ◌++◌, Option, None, Some, map, take, codes, fold, ◌+◌, ◌*◌, ◌-◌}
+use Rattle.std.specs.Prelude.{ℕ, ◌≡◌, ◌≢◌, Bool, true, false, ◌&&◌, ◌||◌, not, cond, nat_le, List, [], ◌∷◌, ◌++◌, Option, None, Some, map, take, codes, fold, ◌+◌, ◌*◌, ◌-◌}
 use Rattle.std.specs.List.{list_any, list_all}
 use Rattle.std.specs.Char.{is_ascii_digit}
 use Rattle.std.specs.Option.{option_to_list}
 use Rattle.std.specs.Str.{bytes_eq}
 use Rattle.fort_arith.specs.declared.op.Op.{Op}
 use Rattle.fort_arith.specs.declared.op.Op.TheVariants.{Add, Sub, Mul}
+use Rattle.fort_tables.specs.Words.{keyword_list, refused_list, intrinsic_list}
 use Rattle.fort_tree.specs.Expr.{depth_of}
 use Rattle.fort_tree.specs.declared.expr.Unary.{Unary}
 use Rattle.fort_tree.specs.declared.expr.Unary.TheVariants.{Plus as UPlus, Minus as UMinus}
@@ -23,30 +24,12 @@ use Rattle.scalar_reader.specs.declared.form.Define.{Define}
 
 -- ---- words
 
--- the words that are no names: those of the statements of the whole language, the intrinsic functions, and the words of statements that it leaves out
-abbrev pub reserved_words : List (List ℕ)
-reserved_words =
-    codes "module" ∷ codes "end" ∷ codes "contains" ∷ codes "subroutine" ∷ codes "function" ∷ codes "result" ∷ codes "use" ∷ codes "only"
-    ∷ codes "implicit" ∷ codes "none" ∷ codes "integer" ∷ codes "kind" ∷ codes "logical" ∷ codes "parameter" ∷ codes "intent" ∷ codes "in"
-    ∷ codes "out" ∷ codes "inout" ∷ codes "dimension" ∷ codes "call" ∷ codes "if" ∷ codes "then" ∷ codes "else" ∷ codes "do" ∷ codes "exit"
-    ∷ codes "cycle" ∷ codes "return" ∷ codes "select" ∷ codes "case" ∷ codes "default" ∷ codes "enddo" ∷ codes "endif" ∷ codes "elseif"
-    ∷ codes "endsubroutine" ∷ codes "endfunction" ∷ codes "endmodule" ∷ codes "selectcase" ∷ codes "endselect"
-    ∷ codes "abs" ∷ codes "int" ∷ codes "max" ∷ codes "min" ∷ codes "mod" ∷ codes "modulo" ∷ codes "sign" ∷ codes "size" ∷ codes "sum"
-    ∷ codes "real" ∷ codes "complex" ∷ codes "double" ∷ codes "character" ∷ codes "type" ∷ codes "class" ∷ codes "enum"
-    ∷ codes "program" ∷ codes "block" ∷ codes "submodule" ∷ codes "interface" ∷ codes "procedure" ∷ codes "recursive" ∷ codes "pure"
-    ∷ codes "elemental" ∷ codes "entry" ∷ codes "import"
-    ∷ codes "goto" ∷ codes "go" ∷ codes "continue" ∷ codes "stop" ∷ codes "error" ∷ codes "pause"
-    ∷ codes "where" ∷ codes "forall" ∷ codes "associate" ∷ codes "while" ∷ codes "concurrent"
-    ∷ codes "open" ∷ codes "close" ∷ codes "read" ∷ codes "write" ∷ codes "print" ∷ codes "rewind" ∷ codes "inquire" ∷ codes "backspace"
-    ∷ codes "endfile" ∷ codes "format" ∷ codes "flush" ∷ codes "namelist"
-    ∷ codes "include" ∷ codes "save" ∷ codes "common" ∷ codes "data" ∷ codes "equivalence" ∷ codes "external" ∷ codes "intrinsic"
-    ∷ codes "private" ∷ codes "public" ∷ codes "protected"
-    ∷ codes "allocate" ∷ codes "deallocate" ∷ codes "nullify"
-    ∷ codes "allocatable" ∷ codes "pointer" ∷ codes "target" ∷ codes "optional" ∷ codes "value" ∷ codes "volatile" ∷ codes "contiguous"
-    ∷ codes "bind" ∷ []
+abbrev pub is_among : List (List ℕ) → List ℕ → Bool
+is_among words text = list_any (λ word. bytes_eq word text) words
 
+-- no name: a word of the statements of the whole language, one of statements that it leaves out, or an intrinsic function
 abbrev pub is_reserved : List ℕ → Bool
-is_reserved text = list_any (λ word. bytes_eq word text) reserved_words
+is_reserved text = is_among keyword_list text || is_among refused_list text || is_among intrinsic_list text
 
 -- names of this compiler's own begin with `claw_`
 abbrev pub is_own : List ℕ → Bool

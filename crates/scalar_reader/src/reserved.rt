@@ -1,136 +1,33 @@
 //! The words that are no names.
-ghost use Rattle.std.specs.Prelude.{◌≡◌, map, take, codes};
-ghost use Rattle.std.specs.List.{list_any};
-ghost use Rattle.std.specs.Str.{bytes_eq};
-ghost use Rattle.scalar_reader.specs.Forms.{reserved_words, is_reserved as reserved_test, is_own as own_test, is_free as free_test};
+ghost use Rattle.std.specs.Prelude.{◌≡◌};
+ghost use Rattle.fort_tables.specs.Words.{keyword_list, refused_list, intrinsic_list};
+ghost use Rattle.scalar_reader.specs.Forms.{is_among, is_reserved as reserved_test, is_own as own_test, is_free as free_test};
 
+use fort_tables::{intrinsics, keywords, refused};
 use fort_tree::Name;
 
-fn reserved_words() -> &'static [&'static [u8]]
-    ensures { map (λ word. word.now) result.now ≡ reserved_words }
+fn is_keyword(text: &[u8]) -> bool
+    ensures { result ≡ is_among keyword_list text.now }
 {
-    &[
-        b"module",
-        b"end",
-        b"contains",
-        b"subroutine",
-        b"function",
-        b"result",
-        b"use",
-        b"only",
-        b"implicit",
-        b"none",
-        b"integer",
-        b"kind",
-        b"logical",
-        b"parameter",
-        b"intent",
-        b"in",
-        b"out",
-        b"inout",
-        b"dimension",
-        b"call",
-        b"if",
-        b"then",
-        b"else",
-        b"do",
-        b"exit",
-        b"cycle",
-        b"return",
-        b"select",
-        b"case",
-        b"default",
-        b"enddo",
-        b"endif",
-        b"elseif",
-        b"endsubroutine",
-        b"endfunction",
-        b"endmodule",
-        b"selectcase",
-        b"endselect",
-        b"abs",
-        b"int",
-        b"max",
-        b"min",
-        b"mod",
-        b"modulo",
-        b"sign",
-        b"size",
-        b"sum",
-        b"real",
-        b"complex",
-        b"double",
-        b"character",
-        b"type",
-        b"class",
-        b"enum",
-        b"program",
-        b"block",
-        b"submodule",
-        b"interface",
-        b"procedure",
-        b"recursive",
-        b"pure",
-        b"elemental",
-        b"entry",
-        b"import",
-        b"goto",
-        b"go",
-        b"continue",
-        b"stop",
-        b"error",
-        b"pause",
-        b"where",
-        b"forall",
-        b"associate",
-        b"while",
-        b"concurrent",
-        b"open",
-        b"close",
-        b"read",
-        b"write",
-        b"print",
-        b"rewind",
-        b"inquire",
-        b"backspace",
-        b"endfile",
-        b"format",
-        b"flush",
-        b"namelist",
-        b"include",
-        b"save",
-        b"common",
-        b"data",
-        b"equivalence",
-        b"external",
-        b"intrinsic",
-        b"private",
-        b"public",
-        b"protected",
-        b"allocate",
-        b"deallocate",
-        b"nullify",
-        b"allocatable",
-        b"pointer",
-        b"target",
-        b"optional",
-        b"value",
-        b"volatile",
-        b"contiguous",
-        b"bind",
-    ]
+    keywords().find(text).is_some()
 }
 
-fn is_among(words: &[&[u8]], text: &[u8]) -> bool
-    ensures { result ≡ list_any (λ word. bytes_eq word.now text.now) words.now }
+fn is_refused(text: &[u8]) -> bool
+    ensures { result ≡ is_among refused_list text.now }
 {
-    words.iter().any(|word| *word == text)
+    refused().find(text).is_some()
+}
+
+fn is_intrinsic(text: &[u8]) -> bool
+    ensures { result ≡ is_among intrinsic_list text.now }
+{
+    intrinsics().find(text).is_some()
 }
 
 fn is_reserved(text: &[u8]) -> bool
     ensures { result ≡ reserved_test text.now }
 {
-    is_among(reserved_words(), text)
+    is_keyword(text) || is_refused(text) || is_intrinsic(text)
 }
 
 /// Whether the text begins as the names do that the compiler makes.
