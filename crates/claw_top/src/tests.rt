@@ -75,6 +75,23 @@ fn refusals(rt: HostRuntime) -> Result<(), Fail> {
             "subroutine s(a)\n",
             "one.f90:1:1: E20 not in the profile 13\n",
         ),
+        (
+            "integer :: aaaaaaaaaaaaaaaaaaaaaaaaaaaaaaaaaaaaaaaaaaaaaaaaaaaaaaaaaaaaaaaa\n",
+            "one.f90:1:12: E03 bad token\n",
+        ),
+        (
+            "integer :: aaaaaaaaaaaaaaaaaaaaaaaaaaaaaaaaaaaaaaaaaaaaaaaaaaaaaaaaaaaaaaa\n",
+            "one.f90:1:1: E20 not in the profile 13\n",
+        ),
+        (
+            "a                                                                                                                                  b\n",
+            "one.f90:1:1: E20 not in the profile 13\n",
+        ),
+        (
+            " a                                                                                                                                  b\n",
+            "one.f90:1:133: E02 line too long\n",
+        ),
+        ("! \u{e9}\n  a = \u{e9}\n", "one.f90:2:7: E01 bad byte\n"),
     ];
     for (source, report) in cases {
         let mut shelf = shelf_of(rt.alloc(), source)?;
