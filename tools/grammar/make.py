@@ -32,18 +32,19 @@ def camel(name):
 
 
 def read_tokens():
-    """The classes in order, and each text with its class."""
-    classes, words = [], []
+    """The classes in order, each text with its class, and the keywords."""
+    classes, words, keywords = [], [], []
     for head, body in lines_of("tokens.txt"):
         texts = body.split()
         if head == "keywords":
             classes += texts
+            keywords = texts
             words += [(text, text) for text in texts]
         else:
             if head not in OTHER_CLASSES:
                 classes.append(head)
             words += [(text, head) for text in texts]
-    return classes + OTHER_CLASSES, words
+    return classes + OTHER_CLASSES, words, keywords
 
 
 class Grammar:
@@ -194,8 +195,9 @@ def quoted(text):
     return f'b"{text}"'
 
 
-def write_class(classes, words):
+def write_class(classes, words, keywords):
     listed = "".join(f"        Word {{\n            text: {quoted(t)},\n            class: Class::{camel(c)},\n        }},\n" for t, c in words)
+    reserved = " | ".join(f"Class::{camel(c)}" for c in keywords + ["reserved"])
     write(
         "src/class.rt",
         f"""//! Classes of tokens: the terminal symbols of the grammar. Made by tools/grammar/make.py.
@@ -212,7 +214,7 @@ pub struct Word {{
 
 impl Class {{
     ghost use Rattle.std.specs.Prelude.{{◌≡◌, nat_eq}};
-    ghost use Rattle.fort_grammar.specs.Class.{{code}};
+    ghost use Rattle.fort_grammar.specs.Class.{{code, is_reserved as reserved_test}};
 
     /// The number of the class, from 0.
     pub fn code(self) -> u8
@@ -227,6 +229,13 @@ impl Class {{
     {{
         self.code() == other.code()
     }}
+
+    /// Whether it is the class of a reserved word, the names of intrinsic functions set aside.
+    pub fn is_reserved(self) -> bool
+        ensures {{ result ≡ reserved_test self }}
+    {{
+        matches!(self, {reserved})
+    }}
 }}
 
 /// The texts whose class is not that of all names or of all numbers.
@@ -240,12 +249,13 @@ pub fn words() -> &'static [Word]
     )
     codes = "".join(f"code class.{camel(c)} = {n}\n" for n, c in enumerate(classes))
     entries = " ∷\n    ".join(f'record {{ text = codes "{t}"; class = class.{camel(c)} }}' for t, c in words)
+    reserved = "".join(f"is_reserved class.{camel(c)} = true\n" for c in keywords + ["reserved"])
     sample = {c: t for t, c in reversed(words)} | SAMPLES
     samples = "".join(f'sample class.{camel(c)} = codes "{sample[c]}"\n' for c in classes)
     write(
         "specs/Class.antt",
         f"""-- Classes of tokens. Made by tools/grammar/make.py.
-use Rattle.std.specs.Prelude.{{ℕ, List, [], ◌∷◌, codes}}
+use Rattle.std.specs.Prelude.{{ℕ, Bool, true, false, List, [], ◌∷◌, codes}}
 use Rattle.fort_grammar.specs.declared.class.Class.{{Class}}
 use Rattle.fort_grammar.specs.declared.class.Class.TheVariants as class
 use Rattle.fort_grammar.specs.declared.class.Word.{{Word}}
@@ -268,6 +278,10 @@ abbrev pub words : List Entry
 words =
     {entries} ∷
     []
+
+-- the class of a reserved word, the names of intrinsic functions set aside
+abbrev pub is_reserved : Class → Bool
+{reserved}is_reserved _ = false
 
 -- a text of each class
 abbrev pub sample : Class → List ℕ
@@ -391,9 +405,9 @@ abbrev pub rank : Part → ℕ
 
 
 def main():
-    classes, words = read_tokens()
+    classes, words, keywords = read_tokens()
     grammar = Grammar(classes)
-    write_class(classes, words)
+    write_class(classes, words, keywords)
     write_table(grammar)
     write_sets(grammar)
     count = len(grammar.all_rows())

@@ -1,5 +1,6 @@
-pub mod CanTake
+pub mod Firsts
 pub mod Productive
+pub mod Reach
 pub mod Steps
 pub mod Theory
 pub mod Words

@@ -1,5 +1,5 @@
 -- The steps of the engine, each as a lemma over the equations of its code.
-use Rattle.std.proofs.Common.{◌≡◌, ◌<◌, List, [], ◌∷◌, ◌++◌, refl, sym, ◌∙◌, ap, subst, Bool, true, false, ◌⊎◌, inl, inr, Option, None, Some}
+use Rattle.std.proofs.Common.{◌≡◌, ◌<◌, List, [], ◌∷◌, ◌++◌, refl, sym, ◌∙◌, ap, subst, false, inl, inr, Option, None, Some}
 use Rattle.fort_grammar.specs.declared.table.Action.{Action}
 use Rattle.fort_grammar.specs.declared.class.Class.{Class}
 use Rattle.fort_grammar.specs.declared.table.Part.{Part}
@@ -7,17 +7,16 @@ use Rattle.fort_grammar.specs.declared.table.Symbol.{Symbol}
 use Rattle.fort_grammar.specs.declared.table.Symbol.TheVariants.{Take, Call, Build}
 use Rattle.fort_tree.specs.declared.statement.Token.{Token}
 use Rattle.fort_grammar.specs.Table.{Choice, table}
-use Rattle.fort_grammar.specs.Choose.{same, member, chosen}
-use Rattle.fort_grammar.specs.Derives.{Derives, done, take, build, row}
+use Rattle.fort_grammar.specs.Choose.{same, chosen}
+use Rattle.fort_grammar.specs.Derives.{done, take, build, row}
 use Rattle.fort_grammar.specs.First.{Good, cost}
 use Rattle.fort_grammar.specs.Engine.{look_of}
-use Rattle.fort_grammar.specs.Engine as engine
 use Rattle.std.proofs.lemmas.Bool.{eq-eqb, or_cases, true≢false}
 use Rattle.fort_grammar.specs.declared.engine.Top.{Top}
 use Rattle.fort_grammar.specs.declared.engine.Top.TheVariants as top
 use Rattle.fort_grammar.specs.Class.{code}
 use Rattle.fort_grammar.specs.Token.{token_class}
-use Rattle.fort_grammar.proofs.Theory.{begins, leads, leads-none, chosen-at-end, none-at-end, same-eq, inv-nil, inv-take, inv-build, inv-call, expands, expands-none, chosen-in, good-call, cost-call}
+use Rattle.fort_grammar.proofs.Theory.{leads, leads-none, chosen-at-end, none-at-end, same-eq, inv-nil, inv-take, inv-build, expands, expands-none, chosen-in, good-call, cost-call}
 use Rattle.fort_grammar.specs.Engine.{Agree, Spelled, Moved, Dead, Finished, Never, Idle, Opened}
 
 heads : (t x : Token) (w v : List Token) → t ∷ w ≡ x ∷ v → t ≡ x

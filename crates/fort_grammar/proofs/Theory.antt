@@ -1,6 +1,6 @@
 -- The test of the table, and what follows from it.
-use Rattle.std.proofs.Common.{◌≡◌, ℕ, ◌+◌, ◌<◌, ◌≤◌, Bool, true, false, cond, ◌&&◌, ◌||◌, ◌⊎◌, inl, inr, List, [], ◌∷◌, ◌++◌, refl, sym, ◌∙◌, ap, subst, Option, None, Some, arith, get_or}
-use Rattle.std.specs.Prelude.{nat_eq, nat_lt, nat_le}
+use Rattle.std.proofs.Common.{◌≡◌, ℕ, ◌+◌, ◌<◌, ◌≤◌, Bool, true, false, cond, ◌&&◌, ◌⊎◌, inl, inr, List, [], ◌∷◌, ◌++◌, refl, sym, ◌∙◌, ap, subst, Option, None, Some, arith, get_or}
+use Rattle.std.specs.Prelude.{nat_lt}
 use Rattle.std.proofs.lemmas.Bool.{cond-true, cond-false, and_parts, and_from, or_cases, or_parts, or_left, or_right, cases_Bool, eq-eqb, eqb-true, ltb-true, true≢false}
 use Rattle.fort_grammar.specs.declared.table.Action.{Action}
 use Rattle.fort_grammar.specs.declared.class.Class.{Class}
@@ -76,7 +76,7 @@ pub then-use : (a b : Bool) → then a b ≡ true → a ≡ true → b ≡ true
 then-use true b h e = h
 then-use false b h e = absurd (true≢false (sym e))
 
-only-use : (c : Class) (b : Bool) (xs : List Class) → member c (only b xs) ≡ true → (b ≡ true) × (member c xs ≡ true)
+pub only-use : (c : Class) (b : Bool) (xs : List Class) → member c (only b xs) ≡ true → (b ≡ true) × (member c xs ≡ true)
 only-use c true xs h = (refl, h)
 only-use c false xs h = absurd (true≢false (sym h))
 
@@ -97,7 +97,7 @@ same-eq x c h = sym (decode-code x) ∙ (ap decode (eqb-true (code x) (code c) h
 pub same-refl : (c : Class) → same c c ≡ true
 same-refl c = eq-eqb (code c) (code c) refl
 
-member-append : (c : Class) (xs ys : List Class) → member c (xs ++ ys) ≡ true → (member c xs ≡ true) ⊎ (member c ys ≡ true)
+pub member-append : (c : Class) (xs ys : List Class) → member c (xs ++ ys) ≡ true → (member c xs ≡ true) ⊎ (member c ys ≡ true)
 member-append c [] ys h = inr h
 member-append c (x ∷ xs) ys h = elim (or_cases (same x c) (member c (xs ++ ys)) h) [ inl e ↦ inl (or_left (same x c) (member c xs) e) | inr e ↦ elim (member-append c xs ys e) [ inl m ↦ inl (or_right (same x c) (member c xs) m) | inr m ↦ inr m ] ]
 
@@ -299,7 +299,7 @@ begins-ready n r ss (t ∷ w) i g h = elim (firsts-append (token_class t) r.symb
 
 -- Where the next token can begin the symbols, the rows lead to it.
 
-firsts-left : (c : Class) (xs ys : List Symbol) → member c (firsts xs) ≡ true → member c (firsts (xs ++ ys)) ≡ true
+pub firsts-left : (c : Class) (xs ys : List Symbol) → member c (firsts xs) ≡ true → member c (firsts (xs ++ ys)) ≡ true
 firsts-left c [] ys h = absurd (true≢false (sym h))
 firsts-left c (Take d ∷ xs) ys h = h
 firsts-left c (Build x ∷ xs) ys h = firsts-left c xs ys h
@@ -309,7 +309,7 @@ firsts-left c (Call n ∷ xs) ys h = elim (member-append c (all_first (table n))
       member-right c (all_first (table n)) (only (any_empty (table n)) (firsts (xs ++ ys))) (only-make c (any_empty (table n)) (firsts (xs ++ ys)) p.0 (firsts-left c xs ys p.1))
 ]
 
-firsts-right : (c : Class) (xs ys : List Symbol) → nulls xs ≡ true → member c (firsts ys) ≡ true → member c (firsts (xs ++ ys)) ≡ true
+pub firsts-right : (c : Class) (xs ys : List Symbol) → nulls xs ≡ true → member c (firsts ys) ≡ true → member c (firsts (xs ++ ys)) ≡ true
 firsts-right c [] ys e h = h
 firsts-right c (Take d ∷ xs) ys e h = absurd (true≢false (sym e))
 firsts-right c (Build x ∷ xs) ys e h = firsts-right c xs ys e h
@@ -317,14 +317,14 @@ firsts-right c (Call n ∷ xs) ys e h =
     let p = and_parts (any_empty (table n)) (nulls xs) e in
     member-right c (all_first (table n)) (only (any_empty (table n)) (firsts (xs ++ ys))) (only-make c (any_empty (table n)) (firsts (xs ++ ys)) p.0 (firsts-right c xs ys p.1 h))
 
-first-in : (c : Class) (rs : List Choice) → member c (all_first rs) ≡ true → (r : Choice) × In r rs × (member c r.first ≡ true)
+pub first-in : (c : Class) (rs : List Choice) → member c (all_first rs) ≡ true → (r : Choice) × In r rs × (member c r.first ≡ true)
 first-in c [] h = absurd (true≢false (sym h))
 first-in c (q ∷ rs) h = elim (member-append c q.first (all_first rs) h) [
   | inl m ↦ (q, here, m)
   | inr m ↦ let p = first-in c rs m in (p.0, there p.1, p.2)
 ]
 
-empty-in : (rs : List Choice) → any_empty rs ≡ true → (r : Choice) × In r rs × (r.empty ≡ true)
+pub empty-in : (rs : List Choice) → any_empty rs ≡ true → (r : Choice) × In r rs × (r.empty ≡ true)
 empty-in [] h = absurd (true≢false (sym h))
 empty-in (q ∷ rs) h = elim (or_cases q.empty (any_empty rs) h) [
   | inl m ↦ (q, here, m)
@@ -389,11 +389,14 @@ cost-append (Take c ∷ xs) ys = omega arith
 cost-append (Build x ∷ xs) ys = let h : cost (xs ++ ys) ≤ cost xs + cost ys = cost-append xs ys in omega arith
 cost-append (Call n ∷ xs) ys = let h : cost (xs ++ ys) ≤ cost xs + cost ys = cost-append xs ys in omega arith
 
-pub cost-call : (n : Part) (r : Choice) (k : Option Class) (ss : List Symbol) → chosen k (table n) ≡ Some r → cost (r.symbols ++ ss) < weight n + cost ss
-cost-call n r k ss h =
+pub cost-row : (n : Part) (r : Choice) → In r (table n) → (ss : List Symbol) → cost (r.symbols ++ ss) < weight n + cost ss
+cost-row n r i ss =
     let a : cost (r.symbols ++ ss) ≤ cost r.symbols + cost ss = cost-append r.symbols ss in
-    let b : cost r.symbols < weight n = ltb-true (cost r.symbols) (weight n) (row_of n r (chosen-in k (table n) r h)).cost in
+    let b : cost r.symbols < weight n = ltb-true (cost r.symbols) (weight n) (row_of n r i).cost in
     omega arith
+
+pub cost-call : (n : Part) (r : Choice) (k : Option Class) (ss : List Symbol) → chosen k (table n) ≡ Some r → cost (r.symbols ++ ss) < weight n + cost ss
+cost-call n r k ss h = cost-row n r (chosen-in k (table n) r h) ss
 
 module _ (V : Type 0) (shift : Token → V → V) (apply : Action → V → V) where
   pub begins : {ss : List Symbol} {w : List Token} {v u : V} → Derives V shift apply ss w v u → Begins ss w

@@ -1,5 +1,5 @@
 -- Classes of tokens. Made by tools/grammar/make.py.
-use Rattle.std.specs.Prelude.{ℕ, List, [], ◌∷◌, codes}
+use Rattle.std.specs.Prelude.{ℕ, Bool, true, false, List, [], ◌∷◌, codes}
 use Rattle.fort_grammar.specs.declared.class.Class.{Class}
 use Rattle.fort_grammar.specs.declared.class.Class.TheVariants as class
 use Rattle.fort_grammar.specs.declared.class.Word.{Word}
@@ -224,6 +224,49 @@ words =
     record { text = codes "contiguous"; class = class.Reserved } ∷
     record { text = codes "bind"; class = class.Reserved } ∷
     []
+
+-- the class of a reserved word, the names of intrinsic functions set aside
+abbrev pub is_reserved : Class → Bool
+is_reserved class.Module = true
+is_reserved class.End = true
+is_reserved class.Contains = true
+is_reserved class.Subroutine = true
+is_reserved class.Function = true
+is_reserved class.Result = true
+is_reserved class.Use = true
+is_reserved class.Only = true
+is_reserved class.Implicit = true
+is_reserved class.None = true
+is_reserved class.Integer = true
+is_reserved class.Kind = true
+is_reserved class.Logical = true
+is_reserved class.Parameter = true
+is_reserved class.Intent = true
+is_reserved class.In = true
+is_reserved class.Out = true
+is_reserved class.Inout = true
+is_reserved class.Dimension = true
+is_reserved class.Call = true
+is_reserved class.If = true
+is_reserved class.Then = true
+is_reserved class.Else = true
+is_reserved class.Do = true
+is_reserved class.Exit = true
+is_reserved class.Cycle = true
+is_reserved class.Return = true
+is_reserved class.Select = true
+is_reserved class.Case = true
+is_reserved class.Default = true
+is_reserved class.Enddo = true
+is_reserved class.Endif = true
+is_reserved class.Elseif = true
+is_reserved class.Endsubroutine = true
+is_reserved class.Endfunction = true
+is_reserved class.Endmodule = true
+is_reserved class.Selectcase = true
+is_reserved class.Endselect = true
+is_reserved class.Reserved = true
+is_reserved _ = false
 
 -- a text of each class
 abbrev pub sample : Class → List ℕ

@@ -2,7 +2,6 @@
 use Rattle.std.specs.Prelude.{◌≡◌, ◌⊎◌, Bool, true, false, List, [], ◌∷◌, Option, None, Some}
 use Rattle.fort_tree.specs.declared.statement.Token.{Token}
 use Rattle.fort_grammar.specs.declared.class.Class.{Class}
-use Rattle.fort_grammar.specs.declared.engine.Nothing.{Nothing}
 use Rattle.fort_grammar.specs.declared.engine.Step.{Step}
 use Rattle.fort_grammar.specs.declared.engine.Step.TheVariants as step
 use Rattle.fort_grammar.specs.declared.engine.Top.{Top}
@@ -67,19 +66,3 @@ module _ (V : Type 0) (shift : Token → V → V) (apply : Action → V → V) w
   Advances step.Moved t a va b vb = Moved t a va b vb
   Advances step.Whole t a va b vb = Dead t a va × Finished a va vb
   Advances step.Stuck t a va b vb = Dead t a va × Never a [] va
-
--- From no values at all.
-abbrev pub unshifted : Token → Nothing → Nothing
-unshifted t v = v
-
-abbrev pub unbuilt : Action → Nothing → Nothing
-unbuilt x v = v
-
--- The tokens derive the symbols, whatever is built on the way.
-abbrev pub Derived : List Symbol → List Token → Type 0
-Derived ss w = (v : Nothing) × (u : Nothing) × Spelled Nothing unshifted unbuilt ss w v u
-
--- The symbols are derived with each token of the class as the first, or with none.
-abbrev pub CanTake : Bool → Class → List Symbol → Type 0
-CanTake true c ss = (t : Token) → token_class t ≡ c → (w : List Token) × Derived ss (t ∷ w)
-CanTake false c ss = (t : Token) (w : List Token) → token_class t ≡ c → Derived ss (t ∷ w) → ⊥

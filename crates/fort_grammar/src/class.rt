@@ -77,7 +77,7 @@ pub struct Word {
 
 impl Class {
     ghost use Rattle.std.specs.Prelude.{◌≡◌, nat_eq};
-    ghost use Rattle.fort_grammar.specs.Class.{code};
+    ghost use Rattle.fort_grammar.specs.Class.{code, is_reserved as reserved_test};
 
     /// The number of the class, from 0.
     pub fn code(self) -> u8
@@ -91,6 +91,54 @@ impl Class {
         ensures { result ≡ nat_eq (code self) (code other) }
     {
         self.code() == other.code()
+    }
+
+    /// Whether it is the class of a reserved word, the names of intrinsic functions set aside.
+    pub fn is_reserved(self) -> bool
+        ensures { result ≡ reserved_test self }
+    {
+        matches!(
+            self,
+            Class::Module
+                | Class::End
+                | Class::Contains
+                | Class::Subroutine
+                | Class::Function
+                | Class::Result
+                | Class::Use
+                | Class::Only
+                | Class::Implicit
+                | Class::None
+                | Class::Integer
+                | Class::Kind
+                | Class::Logical
+                | Class::Parameter
+                | Class::Intent
+                | Class::In
+                | Class::Out
+                | Class::Inout
+                | Class::Dimension
+                | Class::Call
+                | Class::If
+                | Class::Then
+                | Class::Else
+                | Class::Do
+                | Class::Exit
+                | Class::Cycle
+                | Class::Return
+                | Class::Select
+                | Class::Case
+                | Class::Default
+                | Class::Enddo
+                | Class::Endif
+                | Class::Elseif
+                | Class::Endsubroutine
+                | Class::Endfunction
+                | Class::Endmodule
+                | Class::Selectcase
+                | Class::Endselect
+                | Class::Reserved
+        )
     }
 }
 

@@ -1,8 +1,8 @@
 //! The engine: a pushdown automaton that predicts rows by the next token.
-ghost use Rattle.std.specs.Prelude.{◌≡◌, ◌++◌, MatchOption, OnOk, IfOk};
+ghost use Rattle.std.specs.Prelude.{◌≡◌, ◌++◌, reverse, MatchOption, OnOk, IfOk};
 ghost use Rattle.fort_grammar.specs.Choose.{member, suits, chosen};
-ghost use Rattle.fort_grammar.specs.Engine.{Opened, Advances, Finishes, CanTake};
-ghost use Rattle.fort_grammar.specs.First.{Good};
+ghost use Rattle.fort_grammar.specs.Engine.{Opened, Advances, Finishes};
+ghost use Rattle.fort_grammar.specs.First.{Good, all_first, any_empty, firsts};
 ghost use Rattle.fort_grammar.specs.Table.{Choice, choice, table};
 
 use crate::class::Class;
@@ -34,24 +34,6 @@ pub trait Build {
     /// `NoMemory` only where memory was refused.
     fn build(&mut self, alloc: Global, action: Action) -> Result<(), NoMemory>
         ensures { OnOk result (self.new ≡ applied action self.old) };
-}
-
-/// What builds nothing: it tells sentences from others alone.
-#[derive(Clone, Copy, Debug, PartialEq, Eq)]
-pub struct Nothing;
-
-impl Build for Nothing {
-    ghost shifted = { λ _ v. v };
-
-    ghost applied = { λ _ v. v };
-
-    fn shift(&mut self, _alloc: Global, _token: &Token) -> Result<(), NoMemory> {
-        Ok(())
-    }
-
-    fn build(&mut self, _alloc: Global, _action: Action) -> Result<(), NoMemory> {
-        Ok(())
-    }
 }
 
 fn is_in(class: Class, set: &[Class]) -> bool
@@ -187,19 +169,56 @@ pub fn finish<B: Build>(
     }
 }
 
-/// Whether a sentence goes on with a token of the class: with each, or with none.
-///
-/// # Errors
-/// `NoMemory` only where memory was refused.
-pub fn can_take(alloc: Global, stack: &Stack<Symbol>, class: Class) -> Result<bool, NoMemory>
-    requires { Good stack.now }
-    ensures { IfOk result (λ b. CanTake b class stack.now) }
+fn begins(part: Part, class: Class) -> bool
+    ensures { result ≡ member class (all_first (table part)) }
 {
-    let mut symbols = stack.copied(alloc)?;
-    let mut nothing = Nothing;
-    match expand(alloc, &mut symbols, &mut nothing, Some(class))? {
-        Top::Token(wanted) => Ok(wanted.is(class)),
-        Top::End => Ok(false),
-        Top::Stuck => Ok(false),
+    let all = rows(part);
+    for row in all {
+        if is_in(class, row.first) {
+            return true;
+        }
     }
+    false
+}
+
+fn can_be_empty(part: Part) -> bool
+    ensures { result ≡ any_empty (table part) }
+{
+    let all = rows(part);
+    for row in all {
+        if row.empty {
+            return true;
+        }
+    }
+    false
+}
+
+/// Whether a token of the class can begin the symbols, which are given last first.
+fn can_begin(symbols: &[Symbol], class: Class) -> bool
+    ensures { result ≡ member class (firsts (reverse symbols.now)) }
+{
+    for symbol in symbols.iter().rev() {
+        match symbol {
+            Symbol::Take(wanted) => return wanted.is(class),
+            Symbol::Build(_) => {}
+            Symbol::Call(part) => {
+                let first = begins(*part, class);
+                if first {
+                    return true;
+                }
+                let empty = can_be_empty(*part);
+                if !empty {
+                    return false;
+                }
+            }
+        }
+    }
+    false
+}
+
+/// Whether a sentence goes on with a token of the class: whether the class is in FIRST of the symbols.
+pub fn can_take(stack: &Stack<Symbol>, class: Class) -> bool
+    ensures { result ≡ member class (firsts stack.now) }
+{
+    can_begin(stack.items(), class)
 }

@@ -12,7 +12,7 @@ mod table;
 mod token;
 
 pub use class::Class;
-pub use engine::{Build, Nothing, Step, advance, can_take, choose, finish, push_row};
+pub use engine::{Build, Step, advance, can_take, choose, finish, push_row};
 pub use stack::Stack;
 pub use table::{Action, Part, Row, Symbol, rows};
 pub use token::class_of;

@@ -32,6 +32,13 @@ impl<T> Stack<T> {
         }
     }
 
+    /// The items, the top last.
+    pub fn items(&self) -> &[T]
+        ensures { self.now ≡ reverse result.now }
+    {
+        self.items.as_slice()
+    }
+
     /// Takes the top off, if there is one.
     pub fn pop(&mut self) -> Option<T>
         ensures { MatchOption result ((self.old ≡ []) × (self.new ≡ [])) (λ top. self.old ≡ top ∷ self.new) }

@@ -7,7 +7,6 @@ use crate::class::{Class, words as all_words};
 use fort_tree::{Name, Token};
 
 /// The class of the token: by its text where that is listed, else that of all names or of all numbers. A sentinel is in `Other`.
-#[tactic(auto, unfolding(crate::specs::Token::text_class))]
 pub fn class_of(token: &Token) -> Class
     ensures { result ≡ text_class token.now.text }
 {

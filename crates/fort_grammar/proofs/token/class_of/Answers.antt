@@ -1,5 +1,5 @@
-use Rattle.std.proofs.Common.{◌≡◌, ◌∙◌, ap}
-use Rattle.fort_grammar.specs.Token.{text_class, open_class}
+use Rattle.std.proofs.Common.{◌∙◌, ap}
+use Rattle.fort_grammar.specs.Token.{text_class}
 use Rattle.fort_grammar.proofs.Words.{text-listed, text-open}
 use Rattle.fort_grammar.proofs.token.class_of.Goals as goal
 
