@@ -5,8 +5,10 @@
 
 The table is written twice, as data of the program (src) and as definitions (specs), with the
 sets that the proof of the table tests: FIRST and emptiness of each row, FOLLOW of each part,
-a measure, and a row of each part that ends. Nothing trusts this script: the check computes
-that both tables are equal and that the sets are right.
+a measure, and a row of each part that ends. Run `rt fmt` in the crate afterwards.
+
+Nothing trusts this script: the check computes that both tables are equal and that the sets
+are right.
 """
 import os
 
