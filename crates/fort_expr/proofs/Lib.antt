@@ -1,0 +1,11 @@
+pub mod Complete
+pub mod Names
+pub mod Sound
+pub mod Depths
+pub mod ShapeLemmas
+pub mod Both
+pub mod Closing
+pub mod Deep
+pub mod OutsideLaws
+pub mod Stops
+pub mod Answering

@@ -1,0 +1,56 @@
+use Rattle.std.proofs.Common.{◌≤◌, ◌∙◌, sym, ap, subst, Some, None, arith}
+use Rattle.std.proofs.lemmas.Option.{slice_get-get_or}
+use Rattle.fort_expr.specs.Faults.{depth_limit}
+use Rattle.fort_expr.specs.Machine.{JudgesAt}
+use Rattle.fort_expr.proofs.Stops.{tested, whole-exit, syntax-exit, outside-stuck-exit, outside-moved-exit, long-exit, deep-exit, next-kept, whole-end, syntax-end}
+use Rattle.fort_expr.proofs.parsing.parse.Goals as goal
+
+pub returns-in-Whole : goal.returns-in-Whole
+returns-in-Whole c = whole-exit c.args.mode c.args.tokens.now c.loop-i.i c.index-tokens-i.result c.loop-i.stack c.advance.new.stack c.loop-i.values c.advance.new.values c.in_ok-advance.field-0 c.pop_operand.result.0
+    (slice_get-get_or c.args.tokens.now c.loop-i.i _ c.loop-i-test.true ∙ ap Some (sym c.index-tokens-i.is)) c.in-Whole.is c.pop_operand.ensures.value c.loop-i.invariant c.in_ok-advance.ensures
+
+pub returns-in-Some : goal.returns-in-Some
+returns-in-Some c = outside-stuck-exit c.args.mode c.args.tokens.now c.loop-i.i c.index-tokens-i.result c.loop-i.stack c.advance.new.stack c.loop-i.values c.advance.new.values c.in_ok-advance.field-0 c.in-Some.item
+    (slice_get-get_or c.args.tokens.now c.loop-i.i _ c.loop-i-test.true ∙ ap Some (sym c.index-tokens-i.is)) c.in-Stuck.is
+    (tested c.args.mode c.args.tokens.now c.loop-i.i c.index-tokens-i.result c.loop-i.stack c.item-outside.result (Some c.in-Some.item) c.class_behind.result c.item-outside.ensures c.class_behind.ensures c.in-Some.is)
+    c.loop-i.invariant c.in_ok-advance.ensures
+
+pub returns-in-Stuck : goal.returns-in-Stuck
+returns-in-Stuck c = syntax-exit c.args.mode c.args.tokens.now c.loop-i.i c.index-tokens-i.result c.loop-i.stack c.advance.new.stack c.loop-i.values c.advance.new.values c.in_ok-advance.field-0
+    (slice_get-get_or c.args.tokens.now c.loop-i.i _ c.loop-i-test.true ∙ ap Some (sym c.index-tokens-i.is)) c.in-Stuck.is
+    (tested c.args.mode c.args.tokens.now c.loop-i.i c.index-tokens-i.result c.loop-i.stack c.item-outside.result None c.class_behind.result c.item-outside.ensures c.class_behind.ensures c.in_default.is)
+    c.loop-i.invariant c.in_ok-advance.ensures
+
+pub returns-in-Some-outside : goal.returns-in-Some-outside
+returns-in-Some-outside c = outside-moved-exit c.args.mode c.args.tokens.now c.loop-i.i c.index-tokens-i.result c.loop-i.stack c.advance.new.stack c.loop-i.values c.advance.new.values c.in_ok-advance.field-0 c.in-Some-outside.item
+    (slice_get-get_or c.args.tokens.now c.loop-i.i _ c.loop-i-test.true ∙ ap Some (sym c.index-tokens-i.is)) c.in-Moved.is
+    (tested c.args.mode c.args.tokens.now c.loop-i.i c.index-tokens-i.result c.loop-i.stack c.item-outside.result (Some c.in-Some-outside.item) c.class_behind.result c.item-outside.ensures c.class_behind.ensures c.in-Some-outside.is)
+    c.loop-i.invariant c.in_ok-advance.ensures
+
+pub returns-then-past : goal.returns-then-past
+returns-then-past c = long-exit c.args.mode c.args.tokens.now c.loop-i.i c.index-tokens-i.result c.loop-i.stack c.advance.new.stack c.loop-i.values c.advance.new.values c.in_ok-advance.field-0
+    (slice_get-get_or c.args.tokens.now c.loop-i.i _ c.loop-i-test.true ∙ ap Some (sym c.index-tokens-i.is)) c.in-Moved.is
+    (tested c.args.mode c.args.tokens.now c.loop-i.i c.index-tokens-i.result c.loop-i.stack c.item-outside.result None c.class_behind.result c.item-outside.ensures c.class_behind.ensures c.in_default-outside.is)
+    (subst (λ n. n ≤ c.loop-i.i) c.token_limit.ensures c.if-past.true) c.loop-i.invariant c.in_ok-advance.ensures
+
+pub returns-then-deep : goal.returns-then-deep
+returns-then-deep c = deep-exit c.args.mode c.args.tokens.now c.loop-i.i c.index-tokens-i.result c.loop-i.stack c.advance.new.stack c.loop-i.values c.advance.new.values c.in_ok-advance.field-0 c.in_ok-deep.deep
+    (slice_get-get_or c.args.tokens.now c.loop-i.i _ c.loop-i-test.true ∙ ap Some (sym c.index-tokens-i.is)) c.in-Moved.is
+    (tested c.args.mode c.args.tokens.now c.loop-i.i c.index-tokens-i.result c.loop-i.stack c.item-outside.result None c.class_behind.result c.item-outside.ensures c.class_behind.ensures c.in_default-outside.is)
+    c.if-deep.true (subst (λ q. JudgesAt c.in_ok-deep.deep q (depth_limit c.args.mode) c.advance.new.stack c.advance.new.values.shapes) c.class_of.ensures (subst (λ q. JudgesAt c.in_ok-deep.deep c.class_of.result q c.advance.new.stack c.advance.new.values.shapes) c.depth_limit.ensures c.in_ok-deep.ensures)) c.loop-i.invariant c.in_ok-advance.ensures
+
+pub loop-i-preserved : goal.loop-i-preserved
+loop-i-preserved c = next-kept c.args.mode c.args.tokens.now c.loop-i.i c.index-tokens-i.result c.loop-i.stack c.advance.new.stack c.loop-i.values c.advance.new.values c.in_ok-advance.field-0 c.in_ok-deep.deep
+    (slice_get-get_or c.args.tokens.now c.loop-i.i _ c.loop-i-test.true ∙ ap Some (sym c.index-tokens-i.is)) c.in-Moved.is
+    (tested c.args.mode c.args.tokens.now c.loop-i.i c.index-tokens-i.result c.loop-i.stack c.item-outside.result None c.class_behind.result c.item-outside.ensures c.class_behind.ensures c.in_default-outside.is)
+    (λ l. let h : c.token_limit.result ≤ c.loop-i.i = subst (λ n. n ≤ c.loop-i.i) (sym c.token_limit.ensures) l in omega (arith, h, c.if-past.false)) c.if-deep.false
+    (subst (λ q. JudgesAt c.in_ok-deep.deep q (depth_limit c.args.mode) c.advance.new.stack c.advance.new.values.shapes) c.class_of.ensures (subst (λ q. JudgesAt c.in_ok-deep.deep c.class_of.result q c.advance.new.stack c.advance.new.values.shapes) c.depth_limit.ensures c.in_ok-deep.ensures))
+    c.loop-i.invariant c.in_ok-advance.ensures
+
+pub returns-then-whole : goal.returns-then-whole
+returns-then-whole c = whole-end c.args.mode c.args.tokens.now c.loop-i.i c.loop-i.stack c.loop-i.values c.finish.new.values c.in_ok-whole.whole c.pop_operand-then-whole.result.0
+    c.loop-i-test.false c.if-whole.true c.pop_operand-then-whole.ensures.value c.loop-i.invariant c.in_ok-whole.ensures
+
+pub returns : goal.returns
+returns c = syntax-end c.args.mode c.args.tokens.now c.loop-i.i c.loop-i.stack c.loop-i.values c.finish.new.values c.in_ok-whole.whole
+    c.loop-i-test.false c.if-whole.false c.loop-i.invariant c.in_ok-whole.ensures

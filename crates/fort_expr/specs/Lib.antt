@@ -1,0 +1,9 @@
+pub mod Closing
+pub mod Expression
+pub mod Faults
+pub mod Machine
+pub mod Outside
+pub mod Shapes
+pub mod Tracks
+pub mod Values
+pub mod Words

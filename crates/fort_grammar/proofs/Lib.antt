@@ -1,0 +1,6 @@
+pub mod Firsts
+pub mod Productive
+pub mod Reach
+pub mod Steps
+pub mod Theory
+pub mod Words
