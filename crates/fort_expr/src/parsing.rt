@@ -104,7 +104,7 @@ fn place_at(tokens: &[Token], i: usize) -> Place
 /// - `E10` at the first token with which no expression can begin, or at the line's last token where all of them can.
 /// - `E20` at a token outside the profile. Item 10: a reserved word where a name could stand, or, in a source, a name that begins with `claw_`. Item 12: a second colon
 ///   in a section or a double one, an argument's name before `=`, or `(` before `/`.
-/// - `E70` at the first name, number or truth value behind which the expression is deeper than 64, its open parentheses closed, or at the first token past 1000; in a
+/// - `E70` at the first name, number or truth value behind which the expression is deeper than 64, its open parentheses closed, or at the first of these tokens past 1000; in a
 ///   target text 96 and 16000.
 ///
 /// At one place E20 comes before E10. `NoMemory` only where memory was refused.
