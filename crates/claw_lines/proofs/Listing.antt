@@ -4,7 +4,7 @@ use Rattle.std.specs.Prelude.{option_map}
 use Rattle.std.specs.Option.{option_and_then}
 use Rattle.fort_tree.specs.declared.statement.Token.{Token}
 use Rattle.claw_lines.specs.Items.{is_text}
-use Rattle.claw_lines.specs.Steps.{marked, with_mark, next_item, listed_from}
+use Rattle.claw_lines.specs.Steps.{marked, listed_from}
 
 abbrev pub value_or : {A : Type 0} → A → Option A → A
 value_or d None = d
@@ -38,7 +38,7 @@ unmarked item read false true token ts o e = cc
 unmarked item read false false token ts None e = refl
 unmarked item read false false token ts (Some y) e = refl
 
-listed_unmarked : {A : Type 0} (item : Token → Option A) (read : List A) (left : List Token) → marked left ≡ None → listed_from item read left ≡ None
+pub listed_unmarked : {A : Type 0} (item : Token → Option A) (read : List A) (left : List Token) → marked left ≡ None → listed_from item read left ≡ None
 listed_unmarked item read [] e = refl
 listed_unmarked item read (a ∷ []) e = refl
 listed_unmarked item read (a ∷ b ∷ ts) e = unmarked item read (is_text b (codes ")")) (is_text b (codes ",")) a ts (item a) e
@@ -51,46 +51,22 @@ no_item item read true d token ts r e is = let same : item token ≡ None = ap (
 no_item item read false true token ts r e is = let same : item token ≡ None = ap (λ q. item q.0) (ap (value_or (token, false, ts)) e) ∙ is in rw same refl
 no_item item read false false token ts r e is = cc
 
-listed_no_item : {A : Type 0} (item : Token → Option A) (read : List A) (left : List Token) (r : Token × Bool × List Token) → marked left ≡ Some r → item r.0 ≡ None →
+without_item : {A : Type 0} (item : Token → Option A) (read : List A) (left : List Token) (r : Token × Bool × List Token) → marked left ≡ Some r → item r.0 ≡ None →
     listed_from item read left ≡ None
-listed_no_item item read [] r e is = refl
-listed_no_item item read (a ∷ []) r e is = refl
-listed_no_item item read (a ∷ b ∷ ts) r e is = no_item item read (is_text b (codes ")")) (is_text b (codes ",")) a ts r e is
+without_item item read [] r e is = refl
+without_item item read (a ∷ []) r e is = refl
+without_item item read (a ∷ b ∷ ts) r e is = no_item item read (is_text b (codes ")")) (is_text b (codes ",")) a ts r e is
 
--- what a step comes to, where an item and its mark are read
-abbrev Steps : (A : Type 0) → (Token → Option A) → List A → List Token → A × Bool × List Token → Type 0
-Steps A item read left s = listed_from item read left ≡ cond s.1 (Some (read ++ s.0 ∷ [], s.2)) (listed_from item (read ++ s.0 ∷ []) s.2)
+pub listed_no_item : {A : Type 0} (item : Token → Option A) (read : List A) (left rest : List Token) (token : Token) (last : Bool) → marked left ≡ Some (token, last, rest) →
+    item token ≡ None → listed_from item read left ≡ None
+listed_no_item item read left rest token last e is = without_item item read left (token, last, rest) e is
 
-item_at : {A : Type 0} (item : Token → Option A) (read : List A) (left : List Token) (m : Token × Bool × List Token) (o : Option A) (s : A × Bool × List Token) →
-    marked left ≡ Some m → item m.0 ≡ o → option_map (λ x. (x, m.1, m.2)) o ≡ Some s → Steps A item read left s
-item_at item read left m None s e is h = cc
-item_at {A = A} item read left m (Some y) s e is h = subst (Steps A item read left) (ap (value_or (y, m.1, m.2)) h) (stepped item read left m y e is)
+pub listed_last : {A : Type 0} (item : Token → Option A) (read : List A) (left rest : List Token) (token : Token) (x : A) (last : Bool) → marked left ≡ Some (token, last, rest) →
+    item token ≡ Some x → last ≡ true → listed_from item read left ≡ Some (read ++ x ∷ [], rest)
+listed_last item read left rest token x last h is e =
+    stepped item read left (token, last, rest) x h is ∙ ap (λ b. cond b (Some (read ++ x ∷ [], rest)) (listed_from item (read ++ x ∷ []) rest)) e
 
-mark_at : {A : Type 0} (item : Token → Option A) (read : List A) (left : List Token) (o : Option (Token × Bool × List Token)) (s : A × Bool × List Token) →
-    marked left ≡ o → option_and_then (with_mark item) o ≡ Some s → Steps A item read left s
-mark_at item read left None s e h = cc
-mark_at item read left (Some m) s e h = item_at item read left m (item m.0) s e refl h
-
-listed_next : {A : Type 0} (item : Token → Option A) (read : List A) (left : List Token) (s : A × Bool × List Token) → next_item item left ≡ Some s → Steps A item read left s
-listed_next item read left s h = mark_at item read left (marked left) s refl h
-
-pub listed_last : {A : Type 0} (item : Token → Option A) (read : List A) (left rest : List Token) (x : A) (last : Bool) → next_item item left ≡ Some (x, last, rest) → last ≡ true →
-    listed_from item read left ≡ Some (read ++ x ∷ [], rest)
-listed_last item read left rest x last h e = listed_next item read left (x, last, rest) h ∙ ap (λ b. cond b (Some (read ++ x ∷ [], rest)) (listed_from item (read ++ x ∷ []) rest)) e
-
-pub listed_more : {A : Type 0} (item : Token → Option A) (read : List A) (left rest : List Token) (x : A) (last : Bool) → next_item item left ≡ Some (x, last, rest) → last ≡ false →
-    listed_from item read left ≡ listed_from item (read ++ x ∷ []) rest
-listed_more item read left rest x last h e = listed_next item read left (x, last, rest) h ∙ ap (λ b. cond b (Some (read ++ x ∷ [], rest)) (listed_from item (read ++ x ∷ []) rest)) e
-
-none_at : {A : Type 0} (item : Token → Option A) (read : List A) (left : List Token) (m : Token × Bool × List Token) (o : Option A) →
-    marked left ≡ Some m → item m.0 ≡ o → option_map (λ x. (x, m.1, m.2)) o ≡ None → listed_from item read left ≡ None
-none_at item read left m None e is h = listed_no_item item read left m e is
-none_at item read left m (Some y) e is h = cc
-
-none_from : {A : Type 0} (item : Token → Option A) (read : List A) (left : List Token) (o : Option (Token × Bool × List Token)) →
-    marked left ≡ o → option_and_then (with_mark item) o ≡ None → listed_from item read left ≡ None
-none_from item read left None e h = listed_unmarked item read left e
-none_from item read left (Some m) e h = none_at item read left m (item m.0) e refl h
-
-pub listed_none : {A : Type 0} (item : Token → Option A) (read : List A) (left : List Token) → next_item item left ≡ None → listed_from item read left ≡ None
-listed_none item read left h = none_from item read left (marked left) refl h
+pub listed_more : {A : Type 0} (item : Token → Option A) (read : List A) (left rest : List Token) (token : Token) (x : A) (last : Bool) → marked left ≡ Some (token, last, rest) →
+    item token ≡ Some x → last ≡ false → listed_from item read left ≡ listed_from item (read ++ x ∷ []) rest
+listed_more item read left rest token x last h is e =
+    stepped item read left (token, last, rest) x h is ∙ ap (λ b. cond b (Some (read ++ x ∷ [], rest)) (listed_from item (read ++ x ∷ []) rest)) e

@@ -37,13 +37,6 @@ marked [] = None
 marked (token ∷ []) = None
 marked (token ∷ mark ∷ tokens) = cond (is_text mark (codes ")")) (Some (token, true, tokens)) (cond (is_text mark (codes ",")) (Some (token, false, tokens)) None)
 
-abbrev pub with_mark : {A : Type 0} → (Token → Option A) → Token × Bool × List Token → Option (A × Bool × List Token)
-with_mark item front = option_map (λ x. (x, front.1, front.2)) (item front.0)
-
--- the item in front, whether a `)` or a comma stands behind it, and what stands behind that
-abbrev pub next_item : {A : Type 0} → (Token → Option A) → List Token → Option (A × Bool × List Token)
-next_item item tokens = option_and_then (with_mark item) (marked tokens)
-
 -- the items up to a `)`, with commas between, behind those that were read
 abbrev pub listed_from : {A : Type 0} → (Token → Option A) → List A → List Token → Option (List A × List Token)
 listed_from item read [] = None

@@ -1,7 +1,7 @@
 //! Lists in parentheses.
 ghost use Rattle.std.specs.Prelude.{◌≡◌, ◌<◌, ◌∷◌, [], Some, None, IfOk, IfSome, IsErrOf, option_map, length};
 ghost use Rattle.claw_lines.specs.Items.{free_item, position_item};
-ghost use Rattle.claw_lines.specs.Steps.{marked as marked_front, next_item, listed_from};
+ghost use Rattle.claw_lines.specs.Steps.{marked as marked_front, listed_from};
 
 use crate::taking::{free_name, is_text};
 use crate::unread::Unread;
@@ -24,23 +24,14 @@ fn marked(tokens: &[Token]) -> Option<(&Token, bool, &[Token])>
     }
 }
 
-/// The name in front, whether a `)` or a comma stands behind it, and what stands behind that.
-fn next_name(word: DirectiveWord, tokens: &[Token]) -> Option<(Name, bool, &[Token])>
-    ensures value { option_map (λ front. (front.0, front.1, front.2.now)) result ≡ next_item (free_item word) tokens.now }
-    ensures shorter { IfSome result (λ front. length front.2.now < length tokens.now) }
-{
-    let (token, last, rest) = marked(tokens)?;
-    let name = free_name(word, token)?;
-    Some((name, last, rest))
-}
-
 /// The names up to a `)`, one or more with commas between, and the tokens behind it.
 #[tactic(
     auto,
     using(
         crate::proofs::Listing::listed_last,
         crate::proofs::Listing::listed_more,
-        crate::proofs::Listing::listed_none
+        crate::proofs::Listing::listed_unmarked,
+        crate::proofs::Listing::listed_no_item
     )
 )]
 pub fn names<'a>(
@@ -54,7 +45,10 @@ pub fn names<'a>(
     let mut names = Seq::new(alloc);
     let mut left = tokens;
     loop {
-        let Some((name, last, rest)) = next_name(word, left) else {
+        let Some((token, last, rest)) = marked(left) else {
+            return Err(Unread::NoForm);
+        };
+        let Some(name) = free_name(word, token) else {
             return Err(Unread::NoForm);
         };
         names.push(name)?;
@@ -76,23 +70,14 @@ fn position(word: DirectiveWord, token: &Token) -> Option<Option<Name>>
     Some(Some(name))
 }
 
-/// The name or colon in front, whether a `)` or a comma stands behind it, and what stands behind that.
-fn next_position(word: DirectiveWord, tokens: &[Token]) -> Option<(Option<Name>, bool, &[Token])>
-    ensures value { option_map (λ front. (front.0, front.1, front.2.now)) result ≡ next_item (position_item word) tokens.now }
-    ensures shorter { IfSome result (λ front. length front.2.now < length tokens.now) }
-{
-    let (token, last, rest) = marked(tokens)?;
-    let position = position(word, token)?;
-    Some((position, last, rest))
-}
-
 /// The names and colons up to a `)`, one or more with commas between, and the tokens behind it.
 #[tactic(
     auto,
     using(
         crate::proofs::Listing::listed_last,
         crate::proofs::Listing::listed_more,
-        crate::proofs::Listing::listed_none
+        crate::proofs::Listing::listed_unmarked,
+        crate::proofs::Listing::listed_no_item
     )
 )]
 pub fn positions<'a>(
@@ -106,7 +91,10 @@ pub fn positions<'a>(
     let mut positions = Seq::new(alloc);
     let mut left = tokens;
     loop {
-        let Some((position, last, rest)) = next_position(word, left) else {
+        let Some((token, last, rest)) = marked(left) else {
+            return Err(Unread::NoForm);
+        };
+        let Some(position) = position(word, token) else {
             return Err(Unread::NoForm);
         };
         positions.push(position)?;

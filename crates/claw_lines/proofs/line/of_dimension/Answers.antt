@@ -1,4 +1,4 @@
-use Rattle.std.proofs.Common.{◌≡◌, ◌==◌, ◌∷◌, ⊥, [], rules, true, false, None, Some, codes, length, arith, subst, sym, ap, ◌∙◌, List, ◌++◌}
+use Rattle.std.proofs.Common.{◌≡◌, ◌==◌, ◌∷◌, [], rules, true, false, None, Some, codes, length, arith, subst, sym, ap, ◌∙◌, List, ◌++◌}
 use Rattle.std.proofs.lemmas.Grind.{common_steps}
 use Rattle.fort_tree.specs.declared.stmt.Directive.{Directive}
 use Rattle.fort_tree.specs.declared.stmt.DirectiveWord.TheVariants as word
