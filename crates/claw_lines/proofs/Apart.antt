@@ -1,5 +1,5 @@
 -- Words of forms and of parts that no tokens can both begin with.
-use Rattle.std.proofs.Common.{◌≡◌, ℕ, ◌⊎◌, inl, inr, Bool, true, false, cond, not, ◌&&◌, ◌||◌, List, [], ◌∷◌, Option, None, Some, refl, ap, sym, ◌∙◌, subst, codes}
+use Rattle.std.proofs.Common.{◌≡◌, ℕ, ◌⊎◌, inl, inr, Bool, true, false, cond, not, ◌&&◌, ◌||◌, List, [], ◌∷◌, Option, None, Some, refl, sym, ◌∙◌}
 use Rattle.std.specs.Str.{bytes_eq}
 use Rattle.std.specs.List.{list_all}
 use Rattle.std.proofs.lemmas.Slice.Eq.{bytes_eq-Decides}
@@ -7,7 +7,6 @@ use Rattle.fort_tree.specs.declared.statement.Token.{Token}
 use Rattle.fort_tree.specs.declared.stmt.DirectiveWord.{DirectiveWord}
 use Rattle.fort_tree.specs.declared.stmt.DirectiveWord.TheVariants as word
 use Rattle.claw_lines.specs.declared.part.Part.{Part}
-use Rattle.claw_lines.specs.declared.part.Part.TheVariants as part
 use Rattle.claw_lines.specs.Words.{forms as form_list, phrase, opening, parts}
 use Rattle.claw_lines.specs.Items.{is_text}
 use Rattle.claw_lines.specs.Forms as forms

@@ -1,5 +1,5 @@
 -- What a line asks for.
-use Rattle.std.proofs.Common.{◌≡◌, ℕ, ◌⊎◌, inl, inr, Bool, true, false, cond, List, [], ◌∷◌, ◌++◌, Option, None, Some, refl, ap, sym, ◌∙◌, subst, codes}
+use Rattle.std.proofs.Common.{◌≡◌, ℕ, ◌⊎◌, inl, inr, Bool, true, false, cond, List, [], ◌∷◌, ◌++◌, None, Some, refl, ap, sym, ◌∙◌, subst, codes}
 use Rattle.fort_tree.specs.declared.place.Place.{Place}
 use Rattle.fort_tree.specs.declared.statement.Line.{Line}
 use Rattle.fort_tree.specs.declared.statement.Token.{Token}
@@ -11,7 +11,7 @@ use Rattle.claw_lines.specs.declared.part.Part.{Part}
 use Rattle.claw_lines.specs.declared.part.Part.TheVariants as part
 use Rattle.claw_lines.specs.declared.unread.Unread.{Unread}
 use Rattle.std.specs.Prelude.{Result, Ok, Err, IfOk}
-use Rattle.claw_lines.specs.Words.{forms as form_list, phrase, opening, parts}
+use Rattle.claw_lines.specs.Words.{forms as form_list, phrase, opening}
 use Rattle.claw_lines.specs.Forms as forms
 use Rattle.claw_lines.specs.Forms.{IsAmong, Begins, Parts, Defines, Asks, IsLine, Directs, nothing, is_of_parts, is_whole, directive_of, sentinel_place}
 use Rattle.claw_lines.specs.Items.{is_text}
@@ -19,7 +19,7 @@ use Rattle.claw_lines.specs.Steps.{after, found, dimension}
 use Rattle.std.specs.Option.{option_and_then}
 use Rattle.claw_lines.proofs.Listing.{value_or}
 use Rattle.claw_lines.proofs.Fronts.{after-begins, begins-after, found-is, none-found}
-use Rattle.claw_lines.proofs.Apart.{apart-clash, Reaches, Other, front_of, form-reaches, among-of_parts, of_parts-among}
+use Rattle.claw_lines.proofs.Apart.{apart-clash, front_of, form-reaches, among-of_parts, of_parts-among}
 use Rattle.claw_lines.proofs.PartLaws.{parts-unique}
 use Rattle.claw_lines.proofs.Dimensions.{defines-reads, reads-defines}
 

@@ -1,5 +1,5 @@
 -- The bounds of a dimension, and its directive.
-use Rattle.std.proofs.Common.{◌≡◌, ℕ, Bool, true, false, cond, not, ◌&&◌, ◌||◌, List, [], ◌∷◌, Option, None, Some, refl, ap, sym, ◌∙◌, subst, codes, arith}
+use Rattle.std.proofs.Common.{◌≡◌, ℕ, Bool, true, false, cond, ◌&&◌, List, [], ◌∷◌, Option, None, Some, refl, ap, sym, ◌∙◌, subst, codes, arith}
 use Rattle.std.specs.Prelude.{option_map}
 use Rattle.std.specs.Option.{option_and_then}
 use Rattle.std.specs.Char.{is_ascii_alphabetic, is_ascii_digit}
@@ -18,7 +18,7 @@ use Rattle.claw_lines.specs.Forms as forms
 use Rattle.claw_lines.specs.Forms.{Lower, Upper, Defines, dimension_of}
 use Rattle.claw_lines.specs.Steps.{single, lower_first, signed_at, lower_bound, or_name, upper_bound, upper_of, named_front, dimension, dimension_with, dimension_upper, dimension_lower}
 use Rattle.claw_lines.proofs.Listing.{value_or}
-use Rattle.claw_lines.proofs.Fronts.{text_is, is_text-same, Single, single-reads, reads-single}
+use Rattle.claw_lines.proofs.Fronts.{text_is, is_text-same, single-reads, reads-single}
 
 -- ---- numbers, signs and names
 

@@ -1,6 +1,5 @@
 -- Steps along a list in parentheses.
-use Rattle.std.proofs.Common.{◌≡◌, ℕ, Bool, true, false, cond, List, [], ◌∷◌, ◌++◌, Option, None, Some, refl, ap, sym, ◌∙◌, subst, codes}
-use Rattle.std.specs.Prelude.{option_map}
+use Rattle.std.proofs.Common.{◌≡◌, Bool, true, false, cond, List, [], ◌∷◌, ◌++◌, Option, None, Some, refl, ap, ◌∙◌, subst, codes}
 use Rattle.std.specs.Option.{option_and_then}
 use Rattle.fort_tree.specs.declared.statement.Token.{Token}
 use Rattle.claw_lines.specs.Items.{is_text}

@@ -1,11 +1,9 @@
 -- The parts of a form, one after the other.
 use Rattle.std.proofs.lemmas.Bool.Decides.{nat_tests}
-use Rattle.std.proofs.Common.{◌≡◌, ◌==◌, ℕ, ◌<◌, ◌≤◌, Bool, true, false, cond, List, [], ◌∷◌, length, Option, None, Some, is_some, refl, ap, sym, ◌∙◌, subst, codes, arith}
-use Rattle.std.specs.Prelude.{option_map}
+use Rattle.std.proofs.Common.{◌≡◌, ◌==◌, ℕ, ◌<◌, ◌≤◌, Bool, true, false, cond, List, [], ◌∷◌, length, Option, None, Some, is_some, refl, ap, sym, ◌∙◌, subst, arith}
 use Rattle.std.specs.Option.{option_and_then}
 use Rattle.fort_tree.specs.declared.statement.Token.{Token}
 use Rattle.fort_tree.specs.declared.stmt.DirectiveWord.{DirectiveWord}
-use Rattle.fort_tree.specs.declared.stmt.DirectiveWord.TheVariants as word
 use Rattle.claw_lines.specs.declared.given.Given.{Given}
 use Rattle.claw_lines.specs.declared.part.Part.{Part}
 use Rattle.claw_lines.specs.declared.part.Part.TheVariants as part
@@ -13,10 +11,10 @@ use Rattle.claw_lines.specs.Words.{opening, parts}
 use Rattle.claw_lines.specs.Items.{free_item, position_item, count_item}
 use Rattle.claw_lines.specs.Forms as forms
 use Rattle.claw_lines.specs.Forms.{IsAmong, Begins, Listed, Takes, Parts}
-use Rattle.claw_lines.specs.Steps.{after, found, listed_from, single, once, with_names, with_over, with_group, with_number, take_part, next_part}
+use Rattle.claw_lines.specs.Steps.{found, listed_from, single, once, with_names, with_over, with_group, with_number, take_part, next_part}
 use Rattle.claw_lines.proofs.Listing.{value_or}
-use Rattle.claw_lines.proofs.Fronts.{begins-shorter, listed-reads, reads-listed, listed-shorter, Single, single-reads, reads-single, Found, found-is}
-use Rattle.claw_lines.proofs.Apart.{part-found, apart, apart-clash}
+use Rattle.claw_lines.proofs.Fronts.{begins-shorter, listed-reads, reads-listed, listed-shorter, single-reads, reads-single, found-is}
+use Rattle.claw_lines.proofs.Apart.{part-found}
 
 -- ---- one part
 

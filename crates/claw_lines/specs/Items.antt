@@ -1,5 +1,5 @@
 -- What single tokens of a form are.
-use Rattle.std.specs.Prelude.{ℕ, ◌≡◌, Bool, true, cond, ◌&&◌, nat_le, List, Option, None, Some, option_map, is_none, codes}
+use Rattle.std.specs.Prelude.{ℕ, Bool, cond, ◌&&◌, nat_le, List, Option, None, Some, option_map, is_none, codes}
 use Rattle.std.specs.Option.{option_and_then}
 use Rattle.std.specs.Str.{bytes_eq}
 use Rattle.fort_arith.specs.declared.kind.Kind.{Kind}

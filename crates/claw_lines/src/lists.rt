@@ -25,15 +25,7 @@ fn marked(tokens: &[Token]) -> Option<(&Token, bool, &[Token])>
 }
 
 /// The names up to a `)`, one or more with commas between, and the tokens behind it.
-#[tactic(
-    auto,
-    using(
-        crate::proofs::Listing::listed_last,
-        crate::proofs::Listing::listed_more,
-        crate::proofs::Listing::listed_unmarked,
-        crate::proofs::Listing::listed_no_item
-    )
-)]
+#[tactic(auto, using(crate::proofs::Listing::listed_last, crate::proofs::Listing::listed_more, crate::proofs::Listing::listed_unmarked, crate::proofs::Listing::listed_no_item))]
 pub fn names<'a>(
     alloc: Global,
     word: DirectiveWord,
@@ -71,15 +63,7 @@ fn position(word: DirectiveWord, token: &Token) -> Option<Option<Name>>
 }
 
 /// The names and colons up to a `)`, one or more with commas between, and the tokens behind it.
-#[tactic(
-    auto,
-    using(
-        crate::proofs::Listing::listed_last,
-        crate::proofs::Listing::listed_more,
-        crate::proofs::Listing::listed_unmarked,
-        crate::proofs::Listing::listed_no_item
-    )
-)]
+#[tactic(auto, using(crate::proofs::Listing::listed_last, crate::proofs::Listing::listed_more, crate::proofs::Listing::listed_unmarked, crate::proofs::Listing::listed_no_item))]
 pub fn positions<'a>(
     alloc: Global,
     word: DirectiveWord,

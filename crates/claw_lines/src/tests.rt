@@ -26,7 +26,10 @@ fn line(alloc: Global, text: &[u8]) -> Result<Line, NoMemory> {
     let mut all = Seq::new(alloc);
     let sentinel = Seq::from_vec(Vec::from_slice(alloc, b"!$claw")?);
     all.push(Token::new(sentinel, START))?;
-    for token in tokens(alloc, &characters(alloc, text)?)?.into_tokens().into_vec() {
+    for token in tokens(alloc, &characters(alloc, text)?)?
+        .into_tokens()
+        .into_vec()
+    {
         all.push(token)?;
     }
     Ok(Line {

@@ -1,4 +1,4 @@
-use Rattle.std.proofs.Common.{◌≡◌, ◌==◌, ◌<◌, [], rules, true, false, None, Some, length, arith}
+use Rattle.std.proofs.Common.{◌≡◌, ◌==◌, rules, true, false, None, length, arith}
 use Rattle.std.proofs.lemmas.Grind.{common_steps}
 use Rattle.claw_lines.specs.Steps.{next_part}
 use Rattle.claw_lines.proofs.PartLaws.{empty-is, some-is, next-shorter, along-next, along-end, along-stuck}

@@ -1,6 +1,5 @@
-use Rattle.std.proofs.Common.{◌≡◌, ◌==◌, ◌∷◌, [], rules, true, false, None, Some, codes, length, arith, subst, sym, ap, ◌∙◌, List, ◌++◌}
+use Rattle.std.proofs.Common.{◌≡◌, ◌==◌, ◌∷◌, [], rules, true, false, None, Some, codes, length, arith, subst, sym}
 use Rattle.std.proofs.lemmas.Grind.{common_steps}
-use Rattle.fort_tree.specs.declared.stmt.Directive.{Directive}
 use Rattle.fort_tree.specs.declared.stmt.DirectiveWord.TheVariants as word
 use Rattle.claw_lines.specs.declared.given.Given.{Given}
 use Rattle.claw_lines.specs.Forms.{Asks, Parts, nothing, directive_of}

@@ -1,4 +1,4 @@
-use Rattle.std.proofs.Common.{◌≡◌, ℕ, List, Option, None, rules, sym, ap, ◌∙◌, arith}
+use Rattle.std.proofs.Common.{◌≡◌, ℕ, List, None, rules, sym, ap, ◌∙◌, arith}
 use Rattle.std.proofs.lemmas.Grind.{common_steps}
 use Rattle.claw_lines.specs.Items.{free_item}
 use Rattle.claw_lines.specs.Steps.{marked, listed_from}
@@ -21,5 +21,5 @@ loop-token-preserved c =
     let put = λ (read : List (List ℕ)). listed_from (free_item c.args.word) read c.in-Some.rest.now in
     ap put c.in_ok-push.ensures.ok
     ∙ sym (listed_more (free_item c.args.word) c.loop-token.names c.loop-token.left.now c.in-Some.rest.now c.in-Some.token.now c.in-Some-free_name.name c.in-Some.last
-      (sym c.in-Some.ensures.value) (sym c.in-Some-free_name.ensures) c.if-last.false)
+    (sym c.in-Some.ensures.value) (sym c.in-Some-free_name.ensures) c.if-last.false)
     ∙ c.loop-token.invariant

@@ -21,5 +21,5 @@ loop-token-preserved c =
     let put = λ (read : List (Option (List ℕ))). listed_from (position_item c.args.word) read c.in-Some.rest.now in
     ap put c.in_ok-push.ensures.ok
     ∙ sym (listed_more (position_item c.args.word) c.loop-token.positions c.loop-token.left.now c.in-Some.rest.now c.in-Some.token.now c.in-Some-position.position c.in-Some.last
-      (sym c.in-Some.ensures.value) (sym c.in-Some-position.ensures) c.if-last.false)
+    (sym c.in-Some.ensures.value) (sym c.in-Some-position.ensures) c.if-last.false)
     ∙ c.loop-token.invariant

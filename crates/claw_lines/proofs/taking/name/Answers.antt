@@ -1,5 +1,4 @@
-use Rattle.std.proofs.Common.{◌≡◌, None, Some, cond, IsTrue, subst, sym}
-use Rattle.fort_tree.specs.Name.{is_name}
+use Rattle.std.proofs.Common.{◌≡◌, IsTrue, subst, sym}
 use Rattle.fort_tree.specs.Token.{is_token}
 use Rattle.claw_lines.specs.Items.{name_text}
 use Rattle.claw_lines.proofs.Texts.{read_token}
