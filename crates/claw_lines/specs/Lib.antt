@@ -1,0 +1,5 @@
+pub mod Words
+pub mod Items
+pub mod Forms
+pub mod Steps
+pub mod Answer
