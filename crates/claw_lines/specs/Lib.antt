@@ -3,3 +3,4 @@ pub mod Items
 pub mod Forms
 pub mod Steps
 pub mod Answer
+pub mod Examples

@@ -11,7 +11,7 @@ mod part;
 mod taking;
 mod unread;
 
-pub use laws::reading_is_unique;
+pub use laws::{lines_by_example, reading_is_unique};
 pub use line::directive;
 
 #[cfg(test)]
