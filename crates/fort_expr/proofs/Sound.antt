@@ -20,9 +20,9 @@ use Rattle.fort_grammar.specs.Derives as derives
 use Rattle.fort_grammar.specs.Token.{token_class}
 use Rattle.fort_expr.specs.declared.value.Value.{Value}
 use Rattle.fort_expr.specs.declared.value.Value.TheVariants.{Written, Operand, Bound, Subscript, Subscripts}
-use Rattle.fort_expr.specs.Expression.{IsExpr, IsDisj, IsConj, IsNeg, IsRel, IsSum, IsTerm, IsFactor, IsPrimary, IsSubs, IsList, IsSub, IsBound, IsReferred}
+use Rattle.fort_expr.specs.Expression.{IsExpr, IsDisj, IsConj, IsNeg, IsRel, IsSum, IsTerm, IsFactor, IsPrimary, IsRef, IsSubs, IsList, IsSub, IsBound, IsReferred}
 use Rattle.fort_expr.specs.Expression.{a_number, a_kind_number, a_name, an_intrinsic, a_plus, a_minus, a_star, a_slash}
-use Rattle.fort_expr.specs.Expression.{disj, eqv, conj, or, neg, and, rel, not, sum, relation, term, plus, minus, add, factor, times, primary, power, number, truth, bare, subscripted, paren, none, some, one, more, single, section, absent, present}
+use Rattle.fort_expr.specs.Expression.{disj, eqv, conj, or, neg, and, rel, not, sum, relation, term, plus, minus, add, factor, times, primary, power, number, truth, ref, paren, bare, subscripted, none, some, one, more, single, section, absent, present}
 use Rattle.fort_expr.specs.Machine.{Plain}
 use Rattle.fort_expr.specs.Values.{shift, apply, rest, word, word_of, word_place, operand, operand_place, reference, subscripts}
 use Rattle.fort_expr.specs.Words.{operator_of, front_place}
@@ -30,22 +30,26 @@ use Rattle.fort_expr.proofs.Names.{named}
 
 -- What a part means: from the tokens w its value is built, and z is left; or it goes on with the value on top, whose tokens began before.
 
-data Whole (Is : List Token → List Token → Expr → Type 0) : List Token → List Token → List Value → List Value → Type 0 where
+pub data Whole (Is : List Token → List Token → Expr → Type 0) : List Token → List Token → List Value → List Value → Type 0 where
   whole : {w z : List Token} {v : List Value} {e : Expr} → Is w z e → Whole Is w z v (Operand e (front_place w) ∷ v)
 
-abbrev Tail : (List Token → List Token → Expr → Type 0) → (List Token → List Token → Expr → Type 0) → List Token → List Token → List Value → List Value → Type 0
+abbrev pub Tail : (List Token → List Token → Expr → Type 0) → (List Token → List Token → Expr → Type 0) → List Token → List Token → List Value → List Value → Type 0
 Tail Was Is w z v u = (x : List Token) (a : Expr) (r : List Value) → Was x w a → v ≡ Operand a (front_place x) ∷ r → Whole Is x z r u
 
-data Listed : List Token → List Token → List Value → List Value → Type 0 where
+-- a reference behind its name
+pub data Referring (t : Token) : List Token → List Token → List Value → List Value → Type 0 where
+  referring : {w z : List Token} {v : List Value} {e : Expr} → IsRef t w z e → Referring t w z v (Operand e t.at ∷ v)
+
+pub data Listed : List Token → List Token → List Value → List Value → Type 0 where
   listed : {w z : List Token} {v : List Value} {l : List Sub} → IsSubs w z l → Listed w z v (Subscripts l ∷ v)
 
-data Subscripted : List Token → List Token → List Value → List Value → Type 0 where
+pub data Subscripted : List Token → List Token → List Value → List Value → Type 0 where
   a_sub : {w z : List Token} {v : List Value} {s : Sub} → IsSub w z s → Subscripted w z v (Subscript s ∷ v)
 
-data Bounded : List Token → List Token → List Value → List Value → Type 0 where
+pub data Bounded : List Token → List Token → List Value → List Value → Type 0 where
   a_bound : {w z : List Token} {v : List Value} {b : Option Expr} → IsBound w z b → Bounded w z v (Bound b ∷ v)
 
-abbrev Part-means : Part → List Token → List Token → List Value → List Value → Type 0
+abbrev pub Part-means : Part → List Token → List Token → List Value → List Value → Type 0
 Part-means part.Expr w z v u = Whole IsExpr w z v u
 Part-means part.Disj w z v u = Whole IsDisj w z v u
 Part-means part.Conj w z v u = Whole IsConj w z v u
@@ -62,7 +66,7 @@ Part-means part.RelTail w z v u = Tail IsSum IsRel w z v u
 Part-means part.AddTail w z v u = Tail IsSum IsSum w z v u
 Part-means part.MulTail w z v u = Tail IsTerm IsTerm w z v u
 Part-means part.PowTail w z v u = Tail IsPrimary IsFactor w z v u
-Part-means part.RefTail w z v u = (t : Token) (r : List Value) → IsReferred (token_class t) → v ≡ Written (word_of t) ∷ r → Whole IsPrimary (t ∷ w) z r u
+Part-means part.RefTail w z v u = (t : Token) (r : List Value) → IsReferred (token_class t) → v ≡ Written (word_of t) ∷ r → Referring t w z r u
 Part-means part.Subs w z v u = Listed w z v u
 Part-means part.SubTail w z v u = (x : List Token) (l : List Sub) (r : List Value) → IsList x w l → v ≡ Subscripts l ∷ r → Listed x z r u
 Part-means part.Sub w z v u = Subscripted w z v u
@@ -71,13 +75,13 @@ Part-means part.Upper w z v u = Bounded w z v u
 Part-means _ w z v u = Unit {0}
 
 -- what symbols mean, one behind the other
-data Means : List Symbol → List Token → List Token → List Value → List Value → Type 0 where
+pub data Means : List Symbol → List Token → List Token → List Value → List Value → Type 0 where
   done : {w : List Token} {v : List Value} → Means [] w w v v
   take : {c : Class} {ss : List Symbol} {x z : List Token} {v u : List Value} (t : Token) → token_class t ≡ c → Means ss x z (shift t v) u → Means (Take c ∷ ss) (t ∷ x) z v u
   build : {a : Action} {ss : List Symbol} {w z : List Token} {v u : List Value} → Means ss w z (apply a v) u → Means (Build a ∷ ss) w z v u
   call : {n : Part} {ss : List Symbol} {w y z : List Token} {v m u : List Value} → Part-means n w y v m → Means ss y z m u → Means (Call n ∷ ss) w z v u
 
-split : (xs ys : List Symbol) (w z : List Token) (v u : List Value) → Means (xs ++ ys) w z v u → (y : List Token) × (m : List Value) × Means xs w y v m × Means ys y z m u
+pub split : (xs ys : List Symbol) (w z : List Token) (v u : List Value) → Means (xs ++ ys) w z v u → (y : List Token) × (m : List Value) × Means xs w y v m × Means ys y z m u
 split [] ys w z v u h = (w, v, done, h)
 split (Take c ∷ xs) ys w z v u (take {x = x} t e h) = let k = split xs ys x z (shift t v) u h in (k.0, k.1, take t e k.2, k.3)
 split (Build a ∷ xs) ys w z v u (build h) = let k = split xs ys w z (apply a v) u h in (k.0, k.1, build k.2, k.3)
@@ -102,7 +106,7 @@ two_of o a b p v r q = ap (λ k. Operand (Two (operator_of o.text) (operand k) b
 refers : (t : Token) (l : Option (List Sub)) (v k : List Value) → IsReferred (token_class t) → v ≡ Written (word_of t) ∷ k → Operand (reference (word v) l) (word_place (word v)) ∷ rest v ≡ Operand (Ref (lowercase t.text) l t.at) t.at ∷ k
 refers t l v k e h = ap (λ j. Operand (reference (word j) l) (word_place (word j)) ∷ rest j) h ∙ ap (λ n. Operand (Ref n l t.at) t.at ∷ k) (named t e)
 
-fin : {w z : List Token} {v u : List Value} → Means [] w z v u → (P : List Token → List Value → Type 0) → P w v → P z u
+pub fin : {w z : List Token} {v u : List Value} → Means [] w z v u → (P : List Token → List Value → Type 0) → P w v → P z u
 fin done P p = p
 
 put : (Is : List Token → List Token → Expr → Type 0) (w z : List Token) (e : Expr) (r u : List Value) → Is w z e → u ≡ Operand e (front_place w) ∷ r → Whole Is w z r u
@@ -195,21 +199,27 @@ row_PowTail r here w z v u (take o e (call (whole {e = b} d) (build n))) x a k l
 row_PowTail r (there here) w z v u done x a k l q = put IsFactor x w a k v (primary l) q
 row_PowTail r (there (there i)) w z v u h h0 h1 h2 h3 h4 = elim i [ ]
 
+refer : (t : Token) (w z : List Token) (v u : List Value) → IsReferred (token_class t) → Referring t w z v u → Whole IsPrimary (t ∷ w) z v u
+refer t w z v u r (referring d) = whole (ref t r d)
+
+put_ref : (t : Token) (w z : List Token) (e : Expr) (r u : List Value) → IsRef t w z e → u ≡ Operand e t.at ∷ r → Referring t w z r u
+put_ref t w z e r u d q = subst (λ k. Referring t w z r k) (sym q) (referring d)
+
 row_Primary : (r : Choice) → In r (table part.Primary) → (w z : List Token) (v u : List Value) → Means r.symbols w z v u → Part-means part.Primary w z v u
 unfolding apply
 row_Primary r here w z v u (take t e (build done)) = whole (number t (a_number e))
 row_Primary r (there here) w z v u (take t e (build done)) = whole (number t (a_kind_number e))
 row_Primary r (there (there here)) w z v u (take t e (build done)) = whole (truth t e)
-row_Primary r (there (there (there here))) w z v u (take t e (call f done)) = f t v (a_name e) refl
-row_Primary r (there (there (there (there here)))) w z v u (take t e (call f done)) = f t v (an_intrinsic e) refl
+row_Primary r (there (there (there here))) w z v u (take {x = x} t e (call f done)) = refer t x z v u (a_name e) (f t v (a_name e) refl)
+row_Primary r (there (there (there (there here)))) w z v u (take {x = x} t e (call f done)) = refer t x z v u (an_intrinsic e) (f t v (an_intrinsic e) refl)
 row_Primary r (there (there (there (there (there here))))) w z v u (take {x = x} p e (call (whole d) (take q f (build n)))) = fin n (λ y k. Whole IsPrimary (p ∷ x) y v k) (whole (paren p q e d f))
 row_Primary r (there (there (there (there (there (there i)))))) w z v u h = elim i [ ]
 
 row_RefTail : (r : Choice) → In r (table part.RefTail) → (w z : List Token) (v u : List Value) → Means r.symbols w z v u → Part-means part.RefTail w z v u
 unfolding apply
 row_RefTail r here w z v u (take {x = x} p f (call (listed {l = l} d) (take q g (build n)))) t k e h =
-    fin n (λ y j. Whole IsPrimary (t ∷ p ∷ x) y k j) (put IsPrimary (t ∷ p ∷ x) _ (Ref (lowercase t.text) (Some l) t.at) k _ (subscripted t p q e f d g) (refers t (Some l) v k e h))
-row_RefTail r (there here) w z v u (build done) t k e h = put IsPrimary (t ∷ w) z (Ref (lowercase t.text) None t.at) k u (bare t e) (refers t None v k e h)
+    fin n (λ y j. Referring t (p ∷ x) y k j) (put_ref t (p ∷ x) _ (Ref (lowercase t.text) (Some l) t.at) k _ (subscripted p q f d g) (refers t (Some l) v k e h))
+row_RefTail r (there here) w z v u (build done) t k e h = put_ref t w z (Ref (lowercase t.text) None t.at) k u bare (refers t None v k e h)
 row_RefTail r (there (there i)) w z v u h h0 h1 h2 h3 = elim i [ ]
 
 row_Subs : (r : Choice) → In r (table part.Subs) → (w z : List Token) (v u : List Value) → Means r.symbols w z v u → Part-means part.Subs w z v u
@@ -243,7 +253,7 @@ row_Upper r here w z v u (call (whole d) (build done)) = a_bound (present d)
 row_Upper r (there here) w z v u (build done) = a_bound absent
 row_Upper r (there (there i)) w z v u h = elim i [ ]
 
-row-mean : (n : Part) (r : Choice) → In r (table n) → (w z : List Token) (v u : List Value) → Means r.symbols w z v u → Part-means n w z v u
+pub row-mean : (n : Part) (r : Choice) → In r (table n) → (w z : List Token) (v u : List Value) → Means r.symbols w z v u → Part-means n w z v u
 row-mean part.Expr = row_Expr
 row-mean part.EqvTail = row_EqvTail
 row-mean part.Disj = row_Disj

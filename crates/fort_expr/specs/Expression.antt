@@ -71,10 +71,14 @@ mutual
   pub data IsPrimary : List Token → List Token → Expr → Type 0 where
     number : {z : List Token} (t : Token) → IsNumber (token_class t) → IsPrimary (t ∷ z) z (Number (number_of t.text) (kind_of t.text) t.at)
     truth : {z : List Token} (t : Token) → token_class t ≡ class.Truth → IsPrimary (t ∷ z) z (Truth (bytes_eq t.text (codes ".true.")) t.at)
-    bare : {z : List Token} (t : Token) → IsReferred (token_class t) → IsPrimary (t ∷ z) z (Ref (lowercase t.text) None t.at)
-    subscripted : {w z : List Token} {l : List Sub} (t p q : Token) → IsReferred (token_class t) → token_class p ≡ class.Open → IsSubs w (q ∷ z) l → token_class q ≡ class.Close →
-        IsPrimary (t ∷ p ∷ w) z (Ref (lowercase t.text) (Some l) t.at)
+    ref : {w z : List Token} {e : Expr} (t : Token) → IsReferred (token_class t) → IsRef t w z e → IsPrimary (t ∷ w) z e
     paren : {w z : List Token} {e : Expr} (p q : Token) → token_class p ≡ class.Open → IsExpr w (q ∷ z) e → token_class q ≡ class.Close → IsPrimary (p ∷ w) z (Paren e p.at)
+
+  -- what stands behind the name t of a reference
+  pub data IsRef : Token → List Token → List Token → Expr → Type 0 where
+    bare : {z : List Token} {t : Token} → IsRef t z z (Ref (lowercase t.text) None t.at)
+    subscripted : {w z : List Token} {l : List Sub} {t : Token} (p q : Token) → token_class p ≡ class.Open → IsSubs w (q ∷ z) l → token_class q ≡ class.Close →
+        IsRef t (p ∷ w) z (Ref (lowercase t.text) (Some l) t.at)
 
   -- nothing, or subscripts with commas between
   pub data IsSubs : List Token → List Token → List Sub → Type 0 where

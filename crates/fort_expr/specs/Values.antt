@@ -1,5 +1,5 @@
 -- What actions build of the values of an expression.
-use Rattle.std.specs.Prelude.{ℕ, false, cond, List, [], ◌∷◌, ◌++◌, codes, Option, None, Some}
+use Rattle.std.specs.Prelude.{ℕ, Bool, true, false, cond, List, [], ◌∷◌, ◌++◌, codes, Option, None, Some}
 use Rattle.std.specs.Str.{bytes_eq}
 use Rattle.fort_arith.specs.declared.op.Op.{Op}
 use Rattle.fort_arith.specs.declared.op.Op.TheVariants.{Add}
@@ -104,3 +104,24 @@ apply act.Section v = Subscript (sub.Range (Some (operand (rest (rest v)))) (bou
 apply act.FromStart v = Subscript (sub.Range None (bound v) (word_place (word (rest v)))) ∷ rest (rest v)
 apply act.Present v = Bound (Some (operand v)) ∷ rest v
 apply _ v = Bound None ∷ v
+
+-- the actions of an expression's rows
+abbrev pub builds_expression : Action → Bool
+builds_expression act.Number = true
+builds_expression act.Truth = true
+builds_expression act.Bare = true
+builds_expression act.Subscripted = true
+builds_expression act.Paren = true
+builds_expression act.Not = true
+builds_expression act.Plus = true
+builds_expression act.Minus = true
+builds_expression act.Two = true
+builds_expression act.NoSubs = true
+builds_expression act.FirstSub = true
+builds_expression act.NextSub = true
+builds_expression act.OneSub = true
+builds_expression act.Section = true
+builds_expression act.FromStart = true
+builds_expression act.Present = true
+builds_expression act.Absent = true
+builds_expression _ = false
