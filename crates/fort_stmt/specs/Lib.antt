@@ -1,0 +1,5 @@
+pub mod Faults
+pub mod Form
+pub mod Machine
+pub mod Outside
+pub mod Values
