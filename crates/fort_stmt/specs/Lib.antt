@@ -2,4 +2,5 @@ pub mod Faults
 pub mod Form
 pub mod Machine
 pub mod Outside
+pub mod Sort
 pub mod Values

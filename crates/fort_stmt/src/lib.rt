@@ -5,10 +5,12 @@
 
 mod laws;
 mod parsing;
+mod sort;
 mod value;
 
 pub use laws::statements_are_derived;
 pub use parsing::Outcome;
+pub use sort::{ActionSort, Sort};
 pub use value::{Draft, Entity};
 
 #[cfg(test)]
