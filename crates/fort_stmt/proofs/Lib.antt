@@ -1,3 +1,6 @@
 pub mod Complete
+pub mod Outlines
+pub mod OutsideLaws
 pub mod Sound
 pub mod Stops
+pub mod Verdicts

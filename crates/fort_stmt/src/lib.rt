@@ -3,11 +3,15 @@
 //! The relation of statement forms (specs/Form) has a constructor for each form, and the table of the grammar is shown to derive exactly it.
 #![tactic(auto)]
 
+mod judging;
 mod laws;
+mod outline;
+mod outside;
 mod parsing;
 mod sort;
 mod value;
 
+pub use judging::{Judgement, judged};
 pub use laws::statements_are_derived;
 pub use parsing::Outcome;
 pub use sort::{ActionSort, Sort};
