@@ -1,3 +1,4 @@
 pub mod Complete
+pub mod Portions
 pub mod Sound
 pub mod Stops

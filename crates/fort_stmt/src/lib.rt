@@ -4,10 +4,12 @@
 #![tactic(auto)]
 
 mod laws;
+mod limits;
 mod parsing;
 mod value;
 
 pub use laws::statements_are_derived;
+pub use limits::first_past_limit;
 pub use parsing::Outcome;
 pub use value::{Draft, Entity};
 
