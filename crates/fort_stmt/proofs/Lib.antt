@@ -1,4 +1,5 @@
 pub mod Complete
 pub mod Portions
+pub mod Reached
 pub mod Sound
 pub mod Stops
