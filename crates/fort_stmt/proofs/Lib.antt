@@ -1,4 +1,5 @@
 pub mod Complete
+pub mod Passing
 pub mod Portions
 pub mod Reached
 pub mod Sound

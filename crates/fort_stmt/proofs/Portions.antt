@@ -1,5 +1,5 @@
 -- Where a portion stands on top of the symbols that are wanted, the tokens that were read have it.
-use Rattle.std.proofs.Common.{◌≡◌, ◌⊎◌, ℕ, ◌+◌, Bool, true, false, ◌&&◌, inl, inr, List, [], ◌∷◌, ◌++◌, map, Option, None, Some, option_map, refl, sym, ◌∙◌, ap, subst}
+use Rattle.std.proofs.Common.{◌≡◌, ℕ, ◌+◌, Bool, true, false, ◌&&◌, inl, inr, List, [], ◌∷◌, ◌++◌, map, Option, None, Some, option_map, refl, sym, ◌∙◌, ap, subst}
 use Rattle.std.proofs.lemmas.Bool.{true≢false, and_parts}
 use Rattle.std.proofs.lemmas.List.{append-nil}
 use Rattle.fort_tree.specs.declared.expr.Expr.{Expr}
@@ -23,9 +23,9 @@ use Rattle.fort_grammar.specs.Token.{token_class}
 use Rattle.fort_grammar.proofs.Readings.{Through, done, taken, built, by_row, join, above as on_symbols, longer, of-build, split, through}
 use Rattle.fort_grammar.proofs.Theory.{Begins, begins, inv-take, same-refl, then, then-use}
 use Rattle.fort_expr.specs.declared.value.Value.{Value}
-use Rattle.fort_expr.specs.declared.value.Value.TheVariants.{Operand, Written, Subscripts}
+use Rattle.fort_expr.specs.declared.value.Value.TheVariants.{Operand}
 use Rattle.fort_expr.specs.Closing.{Closers}
-use Rattle.fort_expr.specs.Expression.{IsExpr, IsReferred, IsRef, a_name, an_intrinsic}
+use Rattle.fort_expr.specs.Expression.{IsExpr, IsReferred, a_name, an_intrinsic}
 use Rattle.fort_expr.specs.Machine.{Plain}
 use Rattle.fort_expr.specs.Shapes.{cap, shape, operand_depth, subs_depth}
 use Rattle.fort_expr.specs.Values.{shift, apply, name, word, word_place}
@@ -34,7 +34,7 @@ use Rattle.fort_expr.proofs.Depths.{depth-subs}
 use Rattle.fort_expr.proofs.Sound as within
 use Rattle.fort_expr.proofs.Sound.{Means, whole, listed, Referring, referring, row-mean, expr-derived, fin}
 use Rattle.fort_stmt.specs.declared.limits.Cut.{Cut}
-use Rattle.fort_stmt.specs.Cuts.{on_top, above, above_action, cut_of}
+use Rattle.fort_stmt.specs.Cuts.{on_top, above_action, cut_of}
 use Rattle.fort_stmt.specs.Form.{IsTarget, IsArguments, target, arguments, apart, together}
 use Rattle.fort_stmt.specs.Limits.{Portion, left_side, expression, all_arguments, HasDepth, side_depth, expression_depth, arguments_depth, InAction, at_left_side, at_right_side, at_arguments, Stands, in_action, behind_if, behind_test, behind_else_if, do_first, do_second, do_third, behind_select}
 
@@ -200,16 +200,20 @@ module _ (z : List Token) (u q : List Value) (closing : Closers z) where
   clear-claim {b = b} h r = none-claim (no-cut b (reads-plain h r))
 
   take-claim : {W : List Token} {ss : List Symbol} (c : Class) → same c class.Close ≡ false → Claim W (Take c ∷ ss)
-  take-claim {ss = ss} c e = record { portion = λ k h d.
-      let y = under-top (Take c) (cut_of ss) k h in
-      let p = inv-take (List Value) shift apply (subst (λ s. Plain s z u q) y.1 d) in
-      let a : Closers (p.0 ∷ p.1) = subst Closers p.2 closing in
-      absurd (true≢false (sym (same-refl class.Close) ∙ (ap (λ x. same x class.Close) (sym a.0 ∙ p.3) ∙ e))) }
+  take-claim {ss = ss} c e = record {
+    portion = λ k h d.
+        let y = under-top (Take c) (cut_of ss) k h in
+        let p = inv-take (List Value) shift apply (subst (λ s. Plain s z u q) y.1 d) in
+        let a : Closers (p.0 ∷ p.1) = subst Closers p.2 closing in
+        absurd (true≢false (sym (same-refl class.Close) ∙ (ap (λ x. same x class.Close) (sym a.0 ∙ p.3) ∙ e)));
+  }
 
   expr-stop : {W : List Token} {ss : List Symbol} → Claim W (Call part.Expr ∷ ss)
-  expr-stop {ss = ss} = record { portion = λ k h d.
-      let y = under-top (Call part.Expr) (cut_of ss) k h in
-      absurd (no-expr z y.0 closing (begins (List Value) shift apply (subst (λ s. Plain s z u q) y.1 d))) }
+  expr-stop {ss = ss} = record {
+    portion = λ k h d.
+        let y = under-top (Call part.Expr) (cut_of ss) k h in
+        absurd (no-expr z y.0 closing (begins (List Value) shift apply (subst (λ s. Plain s z u q) y.1 d)));
+  }
 
   located : (x : Portion) (f : Bool) (d : ℕ) (W y : List Token) → Stands x W y → HasDepth x y d → (t : Token) × (inner : List Token) × (y ≡ t ∷ inner ++ z) → operand_depth (map shape q) ≡ cap (more f d) → Located z q W f
   located x f d W y s h (t, inner, e) g = record {

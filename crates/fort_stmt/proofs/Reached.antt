@@ -1,10 +1,9 @@
 -- Where a portion stands in a statement's tokens, it stands on top of the symbols that are wanted when they are read.
-use Rattle.std.proofs.Common.{◌≡◌, ℕ, ◌+◌, true, List, [], ◌∷◌, ◌++◌, map, Some, refl, sym, ◌∙◌, ap, subst}
+use Rattle.std.proofs.Common.{◌≡◌, ℕ, ◌+◌, true, List, [], ◌∷◌, ◌++◌, map, Some, refl, ap}
 use Rattle.fort_tree.specs.declared.expr.Expr.{Expr}
 use Rattle.fort_tree.specs.declared.expr.Sub.{Sub}
 use Rattle.fort_tree.specs.declared.statement.Token.{Token}
 use Rattle.fort_tree.specs.Expr.{depth_of}
-use Rattle.fort_grammar.specs.declared.class.Class.{Class}
 use Rattle.fort_grammar.specs.declared.class.Class.TheVariants as class
 use Rattle.fort_grammar.specs.declared.table.Action.TheVariants as act
 use Rattle.fort_grammar.specs.declared.table.Part.TheVariants as part
@@ -13,12 +12,10 @@ use Rattle.fort_grammar.specs.declared.table.Symbol.TheVariants.{Take, Call, Bui
 use Rattle.fort_grammar.specs.Derives.{In, here, there}
 use Rattle.fort_grammar.specs.Derives as derives
 use Rattle.fort_grammar.specs.Reads.{Reads, take, build, row}
-use Rattle.fort_grammar.specs.Table.{Choice, table}
-use Rattle.fort_grammar.specs.Token.{token_class}
 use Rattle.fort_grammar.proofs.Readings.{above as on_symbols, acted, cut}
 use Rattle.fort_expr.specs.declared.value.Value.{Value}
 use Rattle.fort_expr.specs.declared.value.Value.TheVariants.{Operand, Written, Subscripts}
-use Rattle.fort_expr.specs.Expression.{IsExpr, IsReferred, a_name, an_intrinsic}
+use Rattle.fort_expr.specs.Expression.{IsExpr, a_name, an_intrinsic}
 use Rattle.fort_expr.specs.Machine.{Plain}
 use Rattle.fort_expr.specs.Shapes.{cap, shape, operand_depth, subs_depth}
 use Rattle.fort_expr.specs.Values.{shift, apply, name, word, word_place, word_of}
@@ -114,7 +111,7 @@ stands-reached x s y (behind_test {w = w} {y = k} {e = t} i p q e f d g a) =
     let v : List Value = shift p (shift i []) in
     let m : List Value = shift q (apply act.Whole (Operand t (front_place w) ∷ v)) in
     with-reach (action-reached x k y (Build act.IfAction ∷ []) m a) (λ z b u j.
-        row _ (there (there (there (there (there (there (there (there (there (there (there (there (there (there (there (there here)))))))))))))))) (take i e (take p f (expr-read z b u (Build act.Whole ∷ Take class.Close ∷ Call part.IfRest ∷ []) v d (build (take q g (row _ (there here) (in-if z b u x k m (Build act.IfAction ∷ []) j))))))))
+    row _ (there (there (there (there (there (there (there (there (there (there (there (there (there (there (there (there here)))))))))))))))) (take i e (take p f (expr-read z b u (Build act.Whole ∷ Take class.Close ∷ Call part.IfRest ∷ []) v d (build (take q g (row _ (there here) (in-if z b u x k m (Build act.IfAction ∷ []) j))))))))
 stands-reached x w y (behind_else_if p (apart t u e f) g) = record {
   rest = Take class.Close ∷ Take class.Then ∷ Build act.ElseIf ∷ [];
   values = shift p (shift u (shift t []));
@@ -206,7 +203,7 @@ module _ (z : List Token) (first : Token) (others : List Token) (w : List Token)
   call-judged {l = l} same (arguments {w = w} o q e s f) r =
       let u : List Value = Written (word_of q) ∷ Subscripts l ∷ Written (word_of o) ∷ r.values in
       let k : Plain (Take class.Open ∷ Call part.Subs ∷ Take class.Close ∷ []) (o ∷ w) r.values u =
-          derives.take o e (subs_whole (λ ss w v. Plain ss w v u) (deriving-grows u) s (Take class.Close ∷ []) (Written (word_of o) ∷ r.values) (derives.take q f derives.done)) in
+      derives.take o e (subs_whole (λ ss w v. Plain ss w v u) (deriving-grows u) s (Take class.Close ∷ []) (Written (word_of o) ∷ r.values) (derives.take q f derives.done)) in
       let c = cut (List Value) shift apply k first others z same in record {
         symbols = c.0 ++ Build act.Arguments ∷ Build act.Call ∷ r.rest;
         values = c.1;

@@ -52,11 +52,7 @@ fn put(symbol: Symbol, below: Option<Cut>) -> Result<Option<Cut>, NoMemory>
     }
 }
 
-fn put_action(
-    alloc: Global,
-    action: Action,
-    below: Option<Cut>,
-) -> Result<Option<Cut>, NoMemory>
+fn put_action(alloc: Global, action: Action, below: Option<Cut>) -> Result<Option<Cut>, NoMemory>
     ensures { IfOk result (λ cut. cut ≡ above_action action below) }
 {
     match action {
@@ -76,11 +72,7 @@ fn put_action(
     }
 }
 
-fn put_symbol(
-    alloc: Global,
-    symbol: Symbol,
-    below: Option<Cut>,
-) -> Result<Option<Cut>, NoMemory>
+fn put_symbol(alloc: Global, symbol: Symbol, below: Option<Cut>) -> Result<Option<Cut>, NoMemory>
     ensures { IfOk result (λ cut. cut ≡ above symbol below) }
 {
     match symbol {
