@@ -14,4 +14,6 @@ pub use parsing::Outcome;
 pub use value::{Draft, Entity};
 
 #[cfg(test)]
+mod limit_tests;
+#[cfg(test)]
 mod tests;
