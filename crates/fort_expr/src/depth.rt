@@ -154,7 +154,8 @@ fn close(mut stack: Stack<Symbol>, mut shapes: Stack<Shape>) -> Result<Option<u3
     Ok(Some(pop_operand(&mut shapes)))
 }
 
-fn is_leaf(class: Class) -> bool
+/// Whether the class is of names, numbers or truth values.
+pub fn is_leaf(class: Class) -> bool
     ensures { result ≡ leaf_test class }
 {
     let leaves = [
@@ -175,7 +176,11 @@ fn cut(alloc: Global, stack: &Stack<Symbol>, shapes: &Stack<Shape>) -> Result<Op
     close(symbols, copies)
 }
 
-fn is_too_deep(
+/// Whether the expression that is cut here, its open parentheses closed, is deeper than the limit. It is not where more than closing parentheses is wanted.
+///
+/// # Errors
+/// `NoMemory` only where memory was refused.
+pub fn is_too_deep(
     alloc: Global,
     stack: &Stack<Symbol>,
     shapes: &Stack<Shape>,

@@ -9,7 +9,8 @@ mod value;
 mod words;
 
 pub use build::Tracked;
-pub use parsing::{Outcome, expression};
+pub use depth::{is_leaf, is_too_deep, shape_of};
+pub use parsing::{Outcome, depth_limit, expression, token_limit};
 pub use value::{Shape, Value, Word};
 
 #[cfg(test)]

@@ -21,7 +21,8 @@ pub enum Outcome {
     PastLimit(usize),
 }
 
-fn depth_limit(mode: Mode) -> u32
+/// How deep an expression may be. The limit is this project's own.
+pub fn depth_limit(mode: Mode) -> u32
     ensures { result ≡ depth_limit_of mode }
 {
     match mode {
@@ -30,7 +31,8 @@ fn depth_limit(mode: Mode) -> u32
     }
 }
 
-fn token_limit(mode: Mode) -> usize
+/// How many tokens a statement may have. The limit is this project's own.
+pub fn token_limit(mode: Mode) -> usize
     ensures { result ≡ token_limit_of mode }
 {
     match mode {

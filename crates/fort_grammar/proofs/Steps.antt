@@ -9,6 +9,7 @@ use Rattle.fort_tree.specs.declared.statement.Token.{Token}
 use Rattle.fort_grammar.specs.Table.{Choice, table}
 use Rattle.fort_grammar.specs.Choose.{same, chosen}
 use Rattle.fort_grammar.specs.Derives.{done, take, build, row}
+use Rattle.fort_grammar.specs.Reads as reading
 use Rattle.fort_grammar.specs.First.{Good, cost}
 use Rattle.fort_grammar.specs.Engine.{look_of}
 use Rattle.std.proofs.lemmas.Bool.{eq-eqb, or_cases, true≢false}
@@ -39,12 +40,13 @@ module _ (V : Type 0) (shift : Token → V → V) (apply : Action → V → V) w
     pub idle : Idle V shift apply k a va s v
 
   pub agree-refl : (k : Option Class) (a : List Symbol) (v : V) → Agree V shift apply k a v a v
-  agree-refl k a v = record { ahead = λ w u e d. d; back = λ w u d. d }
+  agree-refl k a v = record { ahead = λ w u e d. d; back = λ w u d. d; reads = λ z s w u d. d }
 
   pub agree-build : (k : Option Class) (x : Action) (a ss : List Symbol) (va v : V) → Agree V shift apply k a va (Build x ∷ ss) v → Agree V shift apply k a va ss (apply x v)
   agree-build k x a ss va v h = record {
     ahead = λ w u e d. inv-build V shift apply (h.ahead w u e d);
     back = λ w u d. h.back w u (build d);
+    reads = λ z s w u d. h.reads z s w u (reading.build d);
   }
 
   pub agree-call : (k : Option Class) (n : Part) (r : Choice) (a ss : List Symbol) (va v : V) → Good (Call n ∷ ss) →
@@ -52,6 +54,7 @@ module _ (V : Type 0) (shift : Token → V → V) (apply : Action → V → V) w
   agree-call k n r a ss va v g c h = record {
     ahead = λ w u e d. expands V shift apply n r ss w v u g (subst (λ j. chosen j (table n) ≡ Some r) (sym e) c) (h.ahead w u e d);
     back = λ w u d. h.back w u (row r (chosen-in k (table n) r c) d);
+    reads = λ z s w u d. h.reads z s w u (reading.row r (chosen-in k (table n) r c) d);
   }
 
   pub idle-refl : (k : Option Class) (a : List Symbol) (v : V) → Idle V shift apply k a v a v
@@ -125,6 +128,7 @@ module _ (V : Type 0) (shift : Token → V → V) (apply : Action → V → V) w
     good = g;
     ahead = λ w u d. let p = inv-take V shift apply (h.ahead (t ∷ w) u refl d) in moved w u p;
     back = λ w u d. h.back (t ∷ w) u (take t e d);
+    reads = λ z. h.reads z b (t ∷ z) (shift t vb) (reading.last t e refl);
   })
     where
       moved : (w : List Token) (u : V) → (x : Token) × (rest : List Token) × (t ∷ w ≡ x ∷ rest) × ((token_class x) ≡ c) × Spelled V shift apply b rest (shift x vb) u → Spelled V shift apply b w (shift t vb) u

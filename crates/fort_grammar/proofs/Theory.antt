@@ -190,11 +190,11 @@ abbrev pub Begins : List Symbol → List Token → Type 0
 Begins ss [] = nulls ss ≡ true
 Begins ss (t ∷ w) = member (token_class t) (firsts ss) ≡ true
 
-begins-build : (x : Action) (ss : List Symbol) (w : List Token) → Begins ss w → Begins (Build x ∷ ss) w
+pub begins-build : (x : Action) (ss : List Symbol) (w : List Token) → Begins ss w → Begins (Build x ∷ ss) w
 begins-build x ss [] h = h
 begins-build x ss (t ∷ w) h = h
 
-begins-call : (n : Part) (r : Choice) (ss : List Symbol) (w : List Token) → In r (table n) → Begins (r.symbols ++ ss) w → Begins (Call n ∷ ss) w
+pub begins-call : (n : Part) (r : Choice) (ss : List Symbol) (w : List Token) → In r (table n) → Begins (r.symbols ++ ss) w → Begins (Call n ∷ ss) w
 begins-call n r ss [] i h =
     let p = nulls-append r.symbols ss h in
     and_from (any_empty (table n)) (nulls ss) (in-empty r (table n) i (then-use (nulls r.symbols) r.empty (row_of n r i).empty p.0)) p.1
@@ -290,7 +290,7 @@ chosen-in look (q ∷ rs) r h = elim (cases_Bool (suits look q)) [
   | inr s ↦ there (chosen-in look rs r (sym (cond-false (suits look q) (Some q) (chosen look rs) s) ∙ h))
 ]
 
-begins-ready : (n : Part) (r : Choice) (ss : List Symbol) (w : List Token) → In r (table n) → Good (Call n ∷ ss) → Begins (r.symbols ++ ss) w → Ready n (look_of w) r
+pub begins-ready : (n : Part) (r : Choice) (ss : List Symbol) (w : List Token) → In r (table n) → Good (Call n ∷ ss) → Begins (r.symbols ++ ss) w → Ready n (look_of w) r
 begins-ready n r ss [] i g h = then-use (nulls r.symbols) r.empty (row_of n r i).empty (nulls-append r.symbols ss h).0
 begins-ready n r ss (t ∷ w) i g h = elim (firsts-append (token_class t) r.symbols ss h) [
   | inl m ↦ inl (within-member (token_class t) (firsts r.symbols) r.first (row_of n r i).first m)

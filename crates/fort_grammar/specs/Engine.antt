@@ -12,6 +12,7 @@ use Rattle.fort_grammar.specs.declared.table.Symbol.TheVariants.{Take}
 use Rattle.fort_grammar.specs.Choose.{member}
 use Rattle.fort_grammar.specs.Derives.{Derives}
 use Rattle.fort_grammar.specs.First.{Good, firsts}
+use Rattle.fort_grammar.specs.Reads.{Reads}
 use Rattle.fort_grammar.specs.Token.{token_class}
 
 -- the class of the next token, if there is one
@@ -24,10 +25,11 @@ module _ (V : Type 0) (shift : Token → V → V) (apply : Action → V → V) w
   abbrev pub Spelled : List Symbol → List Token → V → V → Type 0
   Spelled ss w v u = Derives V shift apply ss w v u
 
-  -- What the first state derives from tokens that begin so the second derives, and what the second derives the first does.
+  -- What the first state derives from tokens that begin so the second derives; what the second derives or reads the first does.
   pub record Agree (k : Option Class) (a : List Symbol) (va : V) (b : List Symbol) (vb : V) : Type 0 where
     pub ahead : (w : List Token) (u : V) → look_of w ≡ k → Spelled a w va u → Spelled b w vb u
     pub back : (w : List Token) (u : V) → Spelled b w vb u → Spelled a w va u
+    pub reads : (z : List Token) (s : List Symbol) (w : List Token) (u : V) → Reads V shift apply z s u b w vb → Reads V shift apply z s u a w va
 
   -- The next token begins what is left, or the two states derive the same from no token.
   abbrev pub Idle : Option Class → List Symbol → V → List Symbol → V → Type 0
@@ -43,11 +45,12 @@ module _ (V : Type 0) (shift : Token → V → V) (apply : Action → V → V) w
   Opened top.End k a va b vb = Agree k a va [] vb × Idle k a va [] vb
   Opened top.Stuck k a va b vb = ((w : List Token) → look_of w ≡ k → Never a w va) × Never a [] va
 
-  -- One token further: what is left derives what the first state derives behind the token.
+  -- One token further: what is left derives what the first state derives behind the token, and is just what is wanted behind it.
   pub record Moved (t : Token) (a : List Symbol) (va : V) (b : List Symbol) (vb : V) : Type 0 where
     pub good : Good b
     pub ahead : (w : List Token) (u : V) → Spelled a (t ∷ w) va u → Spelled b w vb u
     pub back : (w : List Token) (u : V) → Spelled b w vb u → Spelled a (t ∷ w) va u
+    pub reads : (z : List Token) → Reads V shift apply z b vb a (t ∷ z) va
 
   -- No tokens that begin so are derived.
   abbrev pub Dead : Token → List Symbol → V → Type 0

@@ -3,6 +3,7 @@ pub mod Class
 pub mod Derives
 pub mod Engine
 pub mod First
+pub mod Reads
 pub mod Sets
 pub mod Table
 pub mod Token

@@ -1,6 +1,9 @@
 pub mod Complete
 pub mod Outlines
 pub mod OutsideLaws
+pub mod Passing
+pub mod Portions
+pub mod Reached
 pub mod Sound
 pub mod Stops
 pub mod Verdicts

@@ -29,7 +29,7 @@ use Rattle.fort_stmt.proofs.Sound.{form-derived}
 next-take : (tokens : List Token) (i : ℕ) (t : Token) → slice_get tokens i ≡ Some t → take (i + 1) tokens ≡ take i tokens ++ t ∷ []
 next-take tokens i t g = take_more tokens i t (slice_get_within tokens i t g) ∙ ap (λ q. take i tokens ++ q ∷ []) (get_or_from_slice_get tokens i t t g)
 
-next-front : (tokens : List Token) (i : ℕ) (t : Token) (w : List Token) → slice_get tokens i ≡ Some t → take (i + 1) tokens ++ w ≡ take i tokens ++ t ∷ w
+pub next-front : (tokens : List Token) (i : ℕ) (t : Token) (w : List Token) → slice_get tokens i ≡ Some t → take (i + 1) tokens ++ w ≡ take i tokens ++ t ∷ w
 next-front tokens i t w g = ap (λ q. q ++ w) (next-take tokens i t g) ∙ append_assoc (take i tokens) (t ∷ []) w
 
 -- a statement goes on from each state

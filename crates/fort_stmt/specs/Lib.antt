@@ -1,5 +1,7 @@
+pub mod Cuts
 pub mod Faults
 pub mod Form
+pub mod Limits
 pub mod Machine
 pub mod Outline
 pub mod Outside

@@ -5,6 +5,7 @@
 
 mod judging;
 mod laws;
+mod limits;
 mod outline;
 mod outside;
 mod parsing;
@@ -13,9 +14,12 @@ mod value;
 
 pub use judging::{Judgement, judged};
 pub use laws::statements_are_derived;
+pub use limits::first_past_limit;
 pub use parsing::Outcome;
 pub use sort::{ActionSort, Sort};
 pub use value::{Draft, Entity};
 
+#[cfg(test)]
+mod limit_tests;
 #[cfg(test)]
 mod tests;
