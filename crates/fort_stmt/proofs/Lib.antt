@@ -1,4 +1,5 @@
 pub mod Complete
+pub mod Firsts
 pub mod Outlines
 pub mod OutsideLaws
 pub mod Passing

@@ -7,3 +7,4 @@ pub mod Outline
 pub mod Outside
 pub mod Sort
 pub mod Values
+pub mod Verdict

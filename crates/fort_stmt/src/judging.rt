@@ -10,7 +10,7 @@ use fort_tree::{Mode, NoMemory, Token};
 use std::alloc::Global;
 
 /// What some tokens are by their form and the profile.
-#[derive(Debug, Drop)]
+#[derive(Clone, Copy, Debug)]
 pub enum Judgement {
     /// A statement, of this sort.
     Form(Sort),
