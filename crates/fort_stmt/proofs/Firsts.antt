@@ -10,11 +10,13 @@ use Rattle.fort_tree.specs.declared.fault.Code.{Code}
 use Rattle.fort_tree.specs.declared.fault.Code.TheVariants as code
 use Rattle.fort_tree.specs.declared.statement.Statement.{Statement}
 use Rattle.fort_tree.specs.declared.statement.Token.{Token}
+use Rattle.fort_stmt.specs.declared.judging.Extent.{Extent}
+use Rattle.fort_stmt.specs.declared.judging.Extent.TheVariants as extent
 use Rattle.fort_stmt.specs.declared.judging.Judgement.{Judgement}
 use Rattle.fort_stmt.specs.declared.judging.Judgement.TheVariants as judgement
 use Rattle.fort_stmt.specs.declared.reading.Wrong.{Wrong}
-use Rattle.fort_stmt.specs.declared.sort.Sort.{Sort}
-use Rattle.fort_stmt.specs.Faults.{Begins, Run, NoStatement, OutsideAt, Inside, HasSort, Judges}
+use Rattle.fort_stmt.specs.declared.outline.Outline.{Outline}
+use Rattle.fort_stmt.specs.Faults.{Begins, Run, NoStatement, OutsideAt, Inside, Extends, Judges}
 use Rattle.fort_stmt.specs.Form.{IsStatement}
 use Rattle.fort_stmt.specs.Limits.{PastLimit, FirstPastLimit}
 use Rattle.fort_stmt.specs.Verdict.{HasFault, outside, syntax, limit, rank, NotBehind, FirstFault, NoFault, IsFirst, of_form, of_limit, earlier}
@@ -59,8 +61,8 @@ limit-first mode tokens q h outs last = (h.0, record { has = limit h.0 h.1 h.2; 
 abbrev LimitsFrom : Mode → List Token → ℕ → Type 0
 LimitsFrom mode tokens n = (j : ℕ) → j < length tokens → Begins (take (j + 1) tokens) → PastLimit mode tokens j → n ≤ j
 
-outside-first : (mode : Mode) (tokens : List Token) (n item : ℕ) → Judges (judgement.Outside n item) mode tokens → LimitsFrom mode tokens n → IsFirst (of_form (judgement.Outside n item) (length tokens - 1)) mode tokens
-outside-first mode tokens n item h limits = (within mode tokens n item h.2, record { has = outside h.0 h.2; first = others })
+outside-first : (o : Outline) (mode : Mode) (tokens : List Token) (n item : ℕ) → Extends (extent.Outside n item) mode tokens o → LimitsFrom mode tokens n → IsFirst (of_form (extent.Outside n item) (length tokens - 1)) mode tokens
+outside-first o mode tokens n item h limits = (within mode tokens n item h.2, record { has = outside h.0 h.2; first = others })
   where
     others : (j : ℕ) (d : Code) (m : ℕ) → HasFault mode tokens j d m → NotBehind n code.E20 item j d m
     others j d m (outside b o) = elim (cases_order n j) [
@@ -79,9 +81,9 @@ runs-equal tokens n r a b =
     let k : r ≤ n = run-from tokens n r a b.within b.begins in
     omega (arith, h, k)
 
-syntax-first : (mode : Mode) (tokens : List Token) (n : ℕ) → 0 < length tokens → Judges (judgement.Syntax n) mode tokens → LimitsFrom mode tokens (min n (length tokens - 1)) →
-    IsFirst (of_form (judgement.Syntax n) (length tokens - 1)) mode tokens
-syntax-first mode tokens n some h limits = (omega (arith, some), record { has = syntax h.0 h.1; first = others })
+syntax-first : (o : Outline) (mode : Mode) (tokens : List Token) (n : ℕ) → 0 < length tokens → Extends (extent.Syntax n) mode tokens o → LimitsFrom mode tokens (min n (length tokens - 1)) →
+    IsFirst (of_form (extent.Syntax n) (length tokens - 1)) mode tokens
+syntax-first o mode tokens n some h limits = (omega (arith, some), record { has = syntax h.0 h.1; first = others })
   where
     last : ℕ
     last = min n (length tokens - 1)
@@ -91,8 +93,8 @@ syntax-first mode tokens n some h limits = (omega (arith, some), record { has = 
     others j d m (syntax {n = r} run s) = inr (ap (λ q. min q (length tokens - 1)) (runs-equal tokens n r h.0 run), inr (refl, omega arith))
     others j d m (limit l b p) = at-or-behind (min n (length tokens - 1)) j code.E10 code.E70 0 0 (limits j l b p) (inl (omega arith))
 
-form-sound : (mode : Mode) (tokens : List Token) (k : Sort) → Judges (judgement.Form k) mode tokens → FirstPastLimit mode tokens None → IsFirst None mode tokens
-form-sound mode tokens k h none = (others, h.0.0, h.0.1)
+form-sound : (o : Outline) (mode : Mode) (tokens : List Token) → Extends extent.Whole mode tokens o → FirstPastLimit mode tokens None → IsFirst None mode tokens
+form-sound o mode tokens h none = (others, h.0.0, h.0.1)
   where
     others : (j : ℕ) (d : Code) (m : ℕ) → HasFault mode tokens j d m → ⊥
     others j d m (outside b o) = h.1 j (within mode tokens j m o) m o
@@ -112,20 +114,21 @@ choose-first mode tokens w q a b = elim (cases_Bool (nat_lt q w.at)) [
   | inr f ↦ subst (λ o. IsFirst o mode tokens) (sym (cond-false (nat_lt q w.at) (Some (of_limit q)) (Some w) f)) (b (ltb-false q w.at f))
 ]
 
-pub combined : (mode : Mode) (tokens : List Token) (j : Judgement) (p : Option ℕ) → 0 < length tokens → Judges j mode tokens → FirstPastLimit mode tokens p → IsFirst (earlier (of_form j (length tokens - 1)) p) mode tokens
-combined mode tokens (judgement.Form k) None some h f = form-sound mode tokens k h f
-combined mode tokens (judgement.Form k) (Some q) some h f = limit-first mode tokens q f (λ j item o. absurd (h.1 j (within mode tokens j item o) item o)) (λ s. absurd (s h.0.0 h.0.1))
-combined mode tokens (judgement.Syntax n) None some h f = syntax-first mode tokens n some h (none-from mode tokens (min n (length tokens - 1)) f)
-combined mode tokens (judgement.Syntax n) (Some q) some h f = choose-first mode tokens (record { at = min n (length tokens - 1); code = code.E10; item = 0 }) q
-    (λ l. limit-first mode tokens q f (λ j item o. let a : n + 1 ≤ j = inside-behind mode tokens (n + 1) j item h.2 o in omega (arith, a, l)) (λ s. omega (arith, l)))
-    (λ l. syntax-first mode tokens n some h (some-from mode tokens (min n (length tokens - 1)) q f l))
-combined mode tokens (judgement.Outside n item) None some h f = outside-first mode tokens n item h (none-from mode tokens n f)
-combined mode tokens (judgement.Outside n item) (Some q) some h f = choose-first mode tokens (record { at = n; code = code.E20; item = item }) q
-    (λ l. limit-first mode tokens q f (λ j other o. let a : n ≤ j = inside-behind mode tokens n j other h.1 o in omega (arith, a, l)) (λ s. let a : n < length tokens = within mode tokens n item h.2 in omega (arith, a, l)))
-    (λ l. outside-first mode tokens n item h (some-from mode tokens n q f l))
+combined : (o : Outline) (mode : Mode) (tokens : List Token) (x : Extent) (p : Option ℕ) → 0 < length tokens → Extends x mode tokens o → FirstPastLimit mode tokens p → IsFirst (earlier (of_form x (length tokens - 1)) p) mode tokens
+combined o mode tokens extent.Whole None some h f = form-sound o mode tokens h f
+combined o mode tokens extent.Whole (Some q) some h f = limit-first mode tokens q f (λ j item d. absurd (h.1 j (within mode tokens j item d) item d)) (λ s. absurd (s h.0.0 h.0.1))
+combined o mode tokens (extent.Syntax n) None some h f = syntax-first o mode tokens n some h (none-from mode tokens (min n (length tokens - 1)) f)
+combined o mode tokens (extent.Syntax n) (Some q) some h f = choose-first mode tokens (record { at = min n (length tokens - 1); code = code.E10; item = 0 }) q
+    (λ l. limit-first mode tokens q f (λ j item d. let a : n + 1 ≤ j = inside-behind mode tokens (n + 1) j item h.2 d in omega (arith, a, l)) (λ s. omega (arith, l)))
+    (λ l. syntax-first o mode tokens n some h (some-from mode tokens (min n (length tokens - 1)) q f l))
+combined o mode tokens (extent.Outside n item) None some h f = outside-first o mode tokens n item h (none-from mode tokens n f)
+combined o mode tokens (extent.Outside n item) (Some q) some h f = choose-first mode tokens (record { at = n; code = code.E20; item = item }) q
+    (λ l. limit-first mode tokens q f (λ j other d. let a : n ≤ j = inside-behind mode tokens n j other h.1 d in omega (arith, a, l)) (λ s. let a : n < length tokens = within mode tokens n item h.2 in omega (arith, a, l)))
+    (λ l. outside-first o mode tokens n item h (some-from mode tokens n q f l))
 
-pub combined-by : (mode : Mode) (tokens : List Token) (w r : Option Wrong) (p : Option ℕ) → 0 < length tokens → (j : Judgement) × Judges j mode tokens × (w ≡ of_form j (length tokens - 1)) → FirstPastLimit mode tokens p → r ≡ earlier w p → IsFirst r mode tokens
-combined-by mode tokens w r p some (j, h, e) f g = subst (λ o. IsFirst o mode tokens) (sym (g ∙ ap (λ q. earlier q p) e)) (combined mode tokens j p some h f)
+pub combined-by : (mode : Mode) (tokens : List Token) (w r : Option Wrong) (p : Option ℕ) → 0 < length tokens → (x : Extent) × (o : Outline) × Extends x mode tokens o × (w ≡ of_form x (length tokens - 1)) → FirstPastLimit mode tokens p →
+    r ≡ earlier w p → IsFirst r mode tokens
+combined-by mode tokens w r p some (x, o, h, e) f g = subst (λ q. IsFirst q mode tokens) (sym (g ∙ ap (λ q. earlier q p) e)) (combined o mode tokens x p some h f)
 
 -- A judgement of the items is one of the tokens.
 pub judges-at : (mode : Mode) (tokens items : List Token) (j k : Judgement) → items ≡ tokens → j ≡ k → Judges j mode items → Judges k mode tokens

@@ -19,11 +19,13 @@ use Rattle.fort_grammar.specs.Token.{token_class}
 use Rattle.fort_grammar.proofs.Productive.{derivable, token_of, class-sample}
 use Rattle.fort_grammar.proofs.Reach.{reachable}
 use Rattle.fort_grammar.proofs.Theory.{begins}
+use Rattle.fort_stmt.specs.declared.judging.Extent.{Extent}
+use Rattle.fort_stmt.specs.declared.judging.Extent.TheVariants as extent
 use Rattle.fort_stmt.specs.declared.judging.Judgement.TheVariants as judgement
 use Rattle.fort_stmt.specs.declared.outline.Outline.{Outline}
 use Rattle.fort_stmt.specs.declared.outline.Outline.TheVariants as outline
 use Rattle.fort_stmt.specs.declared.sort.Sort.{Sort}
-use Rattle.fort_stmt.specs.Faults.{Begins, Run, NoStatement, CouldStand, OutsideAt, InsideAt, Inside, HasSort, Judges}
+use Rattle.fort_stmt.specs.Faults.{Begins, Run, NoStatement, CouldStand, OutsideAt, InsideAt, Inside, Extends, Judges}
 use Rattle.fort_stmt.specs.Form.{IsStatement}
 use Rattle.fort_stmt.specs.Machine.{start}
 use Rattle.fort_stmt.specs.Outline.{outline_of, sketch_on, pass, first_name, sort_with}
@@ -141,9 +143,9 @@ inside-next mode tokens i t s p g kept h = below_more (λ j. InsideAt mode token
 
 -- The exits.
 
-pub outside-exit : (mode : Mode) (tokens : List Token) (i : ℕ) (t : Token) (s : List Symbol) (p : Outline) (k : ℕ) → slice_get tokens i ≡ Some t → Kept mode tokens i s p → Tested mode tokens i t s ≡ Some k →
-    Judges (judgement.Outside i k) mode tokens
-outside-exit mode tokens i t s p k g kept h =
+pub outside-exit : (o : Outline) (mode : Mode) (tokens : List Token) (i : ℕ) (t : Token) (s : List Symbol) (p : Outline) (k : ℕ) → slice_get tokens i ≡ Some t → Kept mode tokens i s p → Tested mode tokens i t s ≡ Some k →
+    Extends (extent.Outside i k) mode tokens o
+outside-exit o mode tokens i t s p k g kept h =
     let front = take i tokens in
     let behind = drop (i + 1) tokens in
     let can : Class → Bool = λ c. member c (firsts s) in
@@ -154,19 +156,19 @@ outside-exit mode tokens i t s p k g kept h =
       λ other (x, e, d). item-least mode front can (CouldStand front) decides t behind k h other (subst (λ q. Outside mode front (CouldStand front) q behind other) (token-eq x t (sym e ∙ g)) d),
     )
 
-dead-exit : (mode : Mode) (tokens : List Token) (i : ℕ) (t : Token) (s : List Symbol) (p : Outline) → slice_get tokens i ≡ Some t → Kept mode tokens i s p → Tested mode tokens i t s ≡ None → Dead t s p →
-    Judges (judgement.Syntax i) mode tokens
-dead-exit mode tokens i t s p g kept n a =
+dead-exit : (o : Outline) (mode : Mode) (tokens : List Token) (i : ℕ) (t : Token) (s : List Symbol) (p : Outline) → slice_get tokens i ≡ Some t → Kept mode tokens i s p → Tested mode tokens i t s ≡ None → Dead t s p →
+    Extends (extent.Syntax i) mode tokens o
+dead-exit o mode tokens i t s p g kept n a =
     let r = run-at tokens i t s p g kept.ahead kept.back a in
     (r, λ x d. r.dead (slice_get_within tokens i t g) (cut tokens (i + 1) x d), inside-next mode tokens i t s p g kept n)
 
-pub whole-exit : (mode : Mode) (tokens : List Token) (i : ℕ) (t : Token) (s s1 : List Symbol) (p p1 : Outline) (a : Step) → slice_get tokens i ≡ Some t → Kept mode tokens i s p → Tested mode tokens i t s ≡ None →
-    a ≡ step.Whole → Advances a t s p s1 p1 → Judges (judgement.Syntax i) mode tokens
-whole-exit mode tokens i t s s1 p p1 a g kept n e m = dead-exit mode tokens i t s p g kept n (subst (λ q. Advances q t s p s1 p1) e m).0
+pub whole-exit : (o : Outline) (mode : Mode) (tokens : List Token) (i : ℕ) (t : Token) (s s1 : List Symbol) (p p1 : Outline) (a : Step) → slice_get tokens i ≡ Some t → Kept mode tokens i s p → Tested mode tokens i t s ≡ None →
+    a ≡ step.Whole → Advances a t s p s1 p1 → Extends (extent.Syntax i) mode tokens o
+whole-exit o mode tokens i t s s1 p p1 a g kept n e m = dead-exit o mode tokens i t s p g kept n (subst (λ q. Advances q t s p s1 p1) e m).0
 
-pub stuck-exit : (mode : Mode) (tokens : List Token) (i : ℕ) (t : Token) (s s1 : List Symbol) (p p1 : Outline) (a : Step) → slice_get tokens i ≡ Some t → Kept mode tokens i s p → Tested mode tokens i t s ≡ None →
-    a ≡ step.Stuck → Advances a t s p s1 p1 → Judges (judgement.Syntax i) mode tokens
-stuck-exit mode tokens i t s s1 p p1 a g kept n e m = dead-exit mode tokens i t s p g kept n (subst (λ q. Advances q t s p s1 p1) e m).0
+pub stuck-exit : (o : Outline) (mode : Mode) (tokens : List Token) (i : ℕ) (t : Token) (s s1 : List Symbol) (p p1 : Outline) (a : Step) → slice_get tokens i ≡ Some t → Kept mode tokens i s p → Tested mode tokens i t s ≡ None →
+    a ≡ step.Stuck → Advances a t s p s1 p1 → Extends (extent.Syntax i) mode tokens o
+stuck-exit o mode tokens i t s s1 p p1 a g kept n e m = dead-exit o mode tokens i t s p g kept n (subst (λ q. Advances q t s p s1 p1) e m).0
 
 pub moved : (mode : Mode) (tokens : List Token) (i : ℕ) (t : Token) (s s1 : List Symbol) (p p1 : Outline) (a : Step) → slice_get tokens i ≡ Some t → Kept mode tokens i s p → Tested mode tokens i t s ≡ None →
     a ≡ step.Moved → Advances a t s p s1 p1 → Kept mode tokens (i + 1) s1 p1
@@ -185,44 +187,48 @@ inside-end mode tokens i j h = below_more (λ k. InsideAt mode tokens k) (length
     past : InsideAt mode tokens (length tokens)
     past k (t, e, d) = let l : length tokens < length tokens = slice_get_within tokens (length tokens) t e in omega (arith, l)
 
-pub syntax-end : (mode : Mode) (tokens : List Token) (i : ℕ) (s : List Symbol) (p p1 : Outline) (b : Bool) → length tokens ≤ i → Kept mode tokens i s p → b ≡ false → Finishes b s p p1 →
-    Judges (judgement.Syntax (length tokens)) mode tokens
-syntax-end mode tokens i s p p1 b j kept e f = (
+pub syntax-end : (o : Outline) (mode : Mode) (tokens : List Token) (i : ℕ) (s : List Symbol) (p p1 : Outline) (b : Bool) → length tokens ≤ i → Kept mode tokens i s p → b ≡ false → Finishes b s p p1 →
+    Extends (extent.Syntax (length tokens)) mode tokens o
+syntax-end o mode tokens i s p p1 b j kept e f = (
   run-end tokens i s p j kept.back,
   subst NoStatement (take_all i tokens j) (no-statement (take i tokens) s p kept.ahead (subst (λ q. Finishes q s p p1) e f)),
   inside-end mode tokens i j kept.inside,
 )
 
--- The tokens are a statement of the outline.
-outlined : (tokens : List Token) (i : ℕ) (s : List Symbol) (p p1 : Outline) (b : Bool) → length tokens ≤ i → Back (take i tokens) s p → b ≡ true → Finishes b s p p1 → (x : Statement) × IsStatement tokens x × (outline_of x ≡ p1)
-outlined tokens i s p p1 b j back e f =
+pub whole-end : (mode : Mode) (tokens : List Token) (i : ℕ) (s : List Symbol) (p p1 : Outline) (b : Bool) → length tokens ≤ i → Kept mode tokens i s p → b ≡ true → Finishes b s p p1 →
+    Extends extent.Whole mode tokens p1
+whole-end mode tokens i s p p1 b j kept e f =
     let ends : Sketched s [] p p1 = (subst (λ q. Finishes q s p p1) e f).ends in
-    outline-derived tokens p1 (at-start (append-nil (take i tokens) ∙ take_all i tokens j) (back [] p1 ends))
+    (outline-derived tokens p1 (at-start (append-nil (take i tokens) ∙ take_all i tokens j) (kept.back [] p1 ends)), λ m q. kept.inside m (omega (arith, j, q)))
+
+-- The names.
 
 some-sort : (a b : Sort) → Some a ≡ Some b → a ≡ b
 some-sort a b h = cc
 
-pub form-end : (mode : Mode) (tokens : List Token) (i : ℕ) (s : List Symbol) (p p1 : Outline) (b : Bool) (n : Option (List ℕ)) (r : Option Sort) (k : Sort) → length tokens ≤ i → Kept mode tokens i s p → b ≡ true → Finishes b s p p1 →
-    n ≡ first_name tokens → r ≡ sort_with p1 n → r ≡ Some k → Judges (judgement.Form k) mode tokens
-form-end mode tokens i s p p1 b n r k j kept e f g h l =
-    let x = outlined tokens i s p p1 b j kept.back e f in
-    let same : Some (sort_of x.0) ≡ Some k = sym (statement-sorted x.1) ∙ (ap (λ q. sort_with q (first_name tokens)) x.2 ∙ (ap (sort_with p1) (sym g) ∙ (sym h ∙ l))) in
-    ((x.0, x.1, some-sort (sort_of x.0) k same), λ m q. kept.inside m (omega (arith, j, q)))
-
 none-sort : (k : Sort) → Some k ≡ None → ⊥
 none-sort k h = cc
 
-pub no-name : (mode : Mode) (tokens : List Token) (i : ℕ) (s : List Symbol) (p p1 : Outline) (b : Bool) (n : Option (List ℕ)) (r : Option Sort) → length tokens ≤ i → Kept mode tokens i s p → b ≡ true → Finishes b s p p1 →
-    n ≡ first_name tokens → r ≡ sort_with p1 n → r ≡ None → ⊥
-no-name mode tokens i s p p1 b n r j kept e f g h l =
-    let x = outlined tokens i s p p1 b j kept.back e f in
-    none-sort (sort_of x.0) (sym (statement-sorted x.1) ∙ (ap (λ q. sort_with q (first_name tokens)) x.2 ∙ (ap (sort_with p1) (sym g) ∙ (sym h ∙ l))))
+-- what the outline and the first name give
+given : (mode : Mode) (tokens : List Token) (o : Outline) (n : Option (List ℕ)) (r : Option Sort) (h : Extends extent.Whole mode tokens o) → n ≡ first_name tokens → r ≡ sort_with o n → Some (sort_of h.0.0) ≡ r
+given mode tokens o n r h g e = sym (statement-sorted h.0.1) ∙ (ap (λ q. sort_with q (first_name tokens)) h.0.2 ∙ (ap (sort_with o) (sym g) ∙ sym e))
+
+pub form-end : (mode : Mode) (tokens : List Token) (o : Outline) (n : Option (List ℕ)) (r : Option Sort) (k : Sort) (x : Extent) → x ≡ extent.Whole → Extends x mode tokens o → n ≡ first_name tokens → r ≡ sort_with o n → r ≡ Some k →
+    Judges (judgement.Form k) mode tokens
+form-end mode tokens o n r k x w h0 g e l =
+    let h : Extends extent.Whole mode tokens o = subst (λ q. Extends q mode tokens o) w h0 in
+    ((h.0.0, h.0.1, some-sort (sort_of h.0.0) k (given mode tokens o n r h g e ∙ l)), h.1)
+
+pub no-name : (mode : Mode) (tokens : List Token) (o : Outline) (n : Option (List ℕ)) (r : Option Sort) (x : Extent) → x ≡ extent.Whole → Extends x mode tokens o → n ≡ first_name tokens → r ≡ sort_with o n → r ≡ None → ⊥
+no-name mode tokens o n r x w h0 g e l =
+    let h : Extends extent.Whole mode tokens o = subst (λ q. Extends q mode tokens o) w h0 in
+    none-sort (sort_of h.0.0) (given mode tokens o n r h g e ∙ l)
 
 -- Where the judgement begins.
-pub begun : (mode : Mode) (tokens : List Token) → Kept mode tokens 0 start outline.Contains
-begun mode tokens = record {
+pub begun : (mode : Mode) (tokens : List Token) (s : List Symbol) (o : Outline) → s ≡ start → o ≡ outline.Contains → Kept mode tokens 0 s o
+begun mode tokens s o e f = subst (λ q. Kept mode tokens 0 q o) (sym e) (subst (λ q. Kept mode tokens 0 start q) (sym f) (record {
   good = ((λ c h. absurd (true≢false (sym h))), tt);
   ahead = λ w u d. d;
   back = λ w u d. d;
   inside = λ i h. absurd (omega (arith, h));
-}
+}))

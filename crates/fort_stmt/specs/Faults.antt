@@ -6,12 +6,16 @@ use Rattle.fort_tree.specs.declared.statement.Statement.{Statement}
 use Rattle.fort_tree.specs.declared.statement.Token.{Token}
 use Rattle.fort_grammar.specs.declared.class.Class.{Class}
 use Rattle.fort_grammar.specs.Token.{token_class}
+use Rattle.fort_stmt.specs.declared.judging.Extent.{Extent}
+use Rattle.fort_stmt.specs.declared.judging.Extent.TheVariants as extent
 use Rattle.fort_stmt.specs.declared.judging.Judgement.{Judgement}
 use Rattle.fort_stmt.specs.declared.judging.Judgement.TheVariants as judgement
 use Rattle.fort_stmt.specs.declared.parsing.Outcome.{Outcome}
 use Rattle.fort_stmt.specs.declared.parsing.Outcome.TheVariants as outcome
+use Rattle.fort_stmt.specs.declared.outline.Outline.{Outline}
 use Rattle.fort_stmt.specs.declared.sort.Sort.{Sort}
 use Rattle.fort_stmt.specs.Form.{IsStatement}
+use Rattle.fort_stmt.specs.Outline.{outline_of}
 use Rattle.fort_stmt.specs.Outside.{Outside}
 use Rattle.fort_stmt.specs.Sort.{sort_of}
 
@@ -57,7 +61,14 @@ Inside mode tokens n = (i : ℕ) → i < n → InsideAt mode tokens i
 abbrev pub HasSort : List Token → Sort → Type 0
 HasSort tokens k = (s : Statement) × IsStatement tokens s × (sort_of s ≡ k)
 
--- What the tokens are by their form and the profile. At one token the profile comes first.
+-- How far the tokens are a statement, which has this outline, of the profile. At one token the profile comes first.
+abbrev pub Extends : Extent → Mode → List Token → Outline → Type 0
+Extends extent.Whole mode tokens o = ((s : Statement) × IsStatement tokens s × (outline_of s ≡ o)) × Inside mode tokens (length tokens)
+Extends (extent.Syntax n) mode tokens o = Run tokens n × NoStatement tokens × Inside mode tokens (n + 1)
+Extends (extent.Outside n item) mode tokens o =
+    Begins (take n tokens) × Inside mode tokens n × OutsideAt mode tokens n item × ((other : ℕ) → OutsideAt mode tokens n other → item ≤ other)
+
+-- What the tokens are by their form and the profile.
 abbrev pub Judges : Judgement → Mode → List Token → Type 0
 Judges (judgement.Form k) mode tokens = HasSort tokens k × Inside mode tokens (length tokens)
 Judges (judgement.Syntax n) mode tokens = Run tokens n × NoStatement tokens × Inside mode tokens (n + 1)

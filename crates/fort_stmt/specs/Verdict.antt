@@ -11,8 +11,8 @@ use Rattle.fort_tree.specs.declared.statement.Line.{Line}
 use Rattle.fort_tree.specs.declared.statement.Statement.{Statement}
 use Rattle.fort_tree.specs.declared.statement.Token.{Token}
 use Rattle.fort_expr.specs.Faults.{FaultAt}
-use Rattle.fort_stmt.specs.declared.judging.Judgement.{Judgement}
-use Rattle.fort_stmt.specs.declared.judging.Judgement.TheVariants as judgement
+use Rattle.fort_stmt.specs.declared.judging.Extent.{Extent}
+use Rattle.fort_stmt.specs.declared.judging.Extent.TheVariants as extent
 use Rattle.fort_stmt.specs.declared.reading.Wrong.{Wrong}
 use Rattle.fort_stmt.specs.declared.sort.Sort.{Sort}
 use Rattle.fort_stmt.specs.Faults.{Begins, Run, Reads, NoStatement, OutsideAt, Inside, HasSort}
@@ -84,10 +84,10 @@ Sketches None line = (k : Sort) → IsSketch line k → ⊥
 
 -- What the code chooses, where a statement's last token has this number.
 
-abbrev pub of_form : Judgement → ℕ → Option Wrong
-of_form (judgement.Form k) last = None
-of_form (judgement.Syntax n) last = Some (record { at = min n last; code = code.E10; item = 0 })
-of_form (judgement.Outside n item) last = Some (record { at = n; code = code.E20; item = item })
+abbrev pub of_form : Extent → ℕ → Option Wrong
+of_form extent.Whole last = None
+of_form (extent.Syntax n) last = Some (record { at = min n last; code = code.E10; item = 0 })
+of_form (extent.Outside n item) last = Some (record { at = n; code = code.E20; item = item })
 
 abbrev pub of_limit : ℕ → Wrong
 of_limit i = record { at = i; code = code.E70; item = 0 }

@@ -1,12 +1,13 @@
 //! The statement of a line.
 ghost use Rattle.std.specs.Prelude.{◌≡◌, ◌-◌, ◌<◌, length, Some, None, IfOk};
 ghost use Rattle.fort_expr.specs.Faults.{FaultAt};
-ghost use Rattle.fort_stmt.specs.declared.judging.Judgement.{Judgement};
-ghost use Rattle.fort_stmt.specs.Faults.{Judges};
+ghost use Rattle.fort_stmt.specs.declared.judging.Extent.{Extent};
+ghost use Rattle.fort_stmt.specs.declared.outline.Outline.{Outline};
+ghost use Rattle.fort_stmt.specs.Faults.{Extends};
 ghost use Rattle.fort_stmt.specs.Verdict.{Answers, Sketches, IsFirst, of_form, earlier as earlier_of};
 
 use crate::building::built;
-use crate::judging::{Judgement, judged};
+use crate::judging::{Extent, Judgement, extent_of, judged};
 use crate::limits::first_past_limit;
 use crate::sort::Sort;
 use fort_tree::{Code, Fault, Line, Mode, NoMemory, Statement, Stop, Token};
@@ -23,19 +24,17 @@ struct Wrong {
 /// The first fault of form or of the profile.
 fn form_fault(alloc: Global, mode: Mode, tokens: &[Token]) -> Result<Option<Wrong>, NoMemory>
     requires { 0 < length tokens.now }
-    ensures { IfOk result (λ wrong. (j : Judgement) × Judges j mode tokens.now × (wrong ≡ of_form j (length tokens.now - 1))) }
+    ensures { IfOk result (λ wrong. (x : Extent) × (o : Outline) × Extends x mode tokens.now o × (wrong ≡ of_form x (length tokens.now - 1))) }
 {
     let last = tokens.len() - 1;
-    let none: Option<fort_tree::Name> = None;
-    let _ = none;
-    match judged(alloc, mode, tokens)? {
-        Judgement::Form(_) => Ok(None),
-        Judgement::Syntax(count) => Ok(Some(Wrong {
+    match extent_of(alloc, mode, tokens)? {
+        Extent::Whole => Ok(None),
+        Extent::Syntax(count) => Ok(Some(Wrong {
             at: count.min(last),
             code: Code::E10,
             item: 0,
         })),
-        Judgement::Outside(at, item) => Ok(Some(Wrong {
+        Extent::Outside(at, item) => Ok(Some(Wrong {
             at,
             code: Code::E20,
             item,

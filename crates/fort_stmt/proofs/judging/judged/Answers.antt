@@ -1,39 +1,10 @@
-use Rattle.std.proofs.Common.{◌∙◌, sym, ap, Some, None}
-use Rattle.std.proofs.lemmas.Option.{slice_get-get_or}
-use Rattle.fort_stmt.proofs.Verdicts.{tested, outside-exit, whole-exit, stuck-exit, moved, syntax-end, form-end, no-name}
+use Rattle.fort_stmt.proofs.Verdicts.{form-end, no-name}
 use Rattle.fort_stmt.proofs.judging.judged.Goals as goal
 
 pub returns-in-Some : goal.returns-in-Some
-returns-in-Some c = outside-exit c.args.mode c.args.tokens.now c.loop-i.i c.index-tokens-i.result c.loop-i.stack c.loop-i.outline c.in-Some.item
-    (slice_get-get_or c.args.tokens.now c.loop-i.i _ c.loop-i-test.true ∙ ap Some (sym c.index-tokens-i.is)) c.loop-i.invariant
-    (tested c.args.mode c.args.tokens.now c.loop-i.i c.index-tokens-i.result c.loop-i.stack c.before-in-loop-i.result.now c.behind.result.now c.item-outside.result (Some c.in-Some.item) c.item-outside.ensures c.before-in-loop-i.ensures c.behind.ensures c.in-Some.is)
-
-pub returns-in-Whole : goal.returns-in-Whole
-returns-in-Whole c = whole-exit c.args.mode c.args.tokens.now c.loop-i.i c.index-tokens-i.result c.loop-i.stack c.advance.new.stack c.loop-i.outline c.advance.new.values c.in_ok-advance.field-0
-    (slice_get-get_or c.args.tokens.now c.loop-i.i _ c.loop-i-test.true ∙ ap Some (sym c.index-tokens-i.is)) c.loop-i.invariant
-    (tested c.args.mode c.args.tokens.now c.loop-i.i c.index-tokens-i.result c.loop-i.stack c.before-in-loop-i.result.now c.behind.result.now c.item-outside.result None c.item-outside.ensures c.before-in-loop-i.ensures c.behind.ensures c.in_default.is)
-    c.in-Whole.is c.in_ok-advance.ensures
-
-pub returns-in-Stuck : goal.returns-in-Stuck
-returns-in-Stuck c = stuck-exit c.args.mode c.args.tokens.now c.loop-i.i c.index-tokens-i.result c.loop-i.stack c.advance.new.stack c.loop-i.outline c.advance.new.values c.in_ok-advance.field-0
-    (slice_get-get_or c.args.tokens.now c.loop-i.i _ c.loop-i-test.true ∙ ap Some (sym c.index-tokens-i.is)) c.loop-i.invariant
-    (tested c.args.mode c.args.tokens.now c.loop-i.i c.index-tokens-i.result c.loop-i.stack c.before-in-loop-i.result.now c.behind.result.now c.item-outside.result None c.item-outside.ensures c.before-in-loop-i.ensures c.behind.ensures c.in_default.is)
-    c.in-Stuck.is c.in_ok-advance.ensures
-
-pub loop-i-preserved : goal.loop-i-preserved
-loop-i-preserved c = moved c.args.mode c.args.tokens.now c.loop-i.i c.index-tokens-i.result c.loop-i.stack c.advance.new.stack c.loop-i.outline c.advance.new.values c.in_ok-advance.field-0
-    (slice_get-get_or c.args.tokens.now c.loop-i.i _ c.loop-i-test.true ∙ ap Some (sym c.index-tokens-i.is)) c.loop-i.invariant
-    (tested c.args.mode c.args.tokens.now c.loop-i.i c.index-tokens-i.result c.loop-i.stack c.before-in-loop-i.result.now c.behind.result.now c.item-outside.result None c.item-outside.ensures c.before-in-loop-i.ensures c.behind.ensures c.in_default.is)
-    c.in-Moved.is c.in_ok-advance.ensures
-
-pub returns-then-not-whole : goal.returns-then-not-whole
-returns-then-not-whole c = syntax-end c.args.mode c.args.tokens.now c.loop-i.i c.loop-i.stack c.loop-i.outline c.finish.new.values c.in_ok-whole.whole
-    c.loop-i-test.false c.loop-i.invariant c.if-not-whole.true c.in_ok-whole.ensures
+returns-in-Some c = form-end c.args.mode c.args.tokens.now c.outlined.new.outline c.first_name.result c.sort_with.result c.in-Some.sort c.in_ok-outlined.field-0
+    c.in-Whole.is c.in_ok-outlined.ensures c.first_name.ensures c.sort_with.ensures c.in-Some.is
 
 pub unreachable-requires : goal.unreachable-requires
-unreachable-requires c = no-name c.args.mode c.args.tokens.now c.loop-i.i c.loop-i.stack c.loop-i.outline c.finish.new.values c.in_ok-whole.whole c.first_name.result c.sort_with.result
-    c.loop-i-test.false c.loop-i.invariant c.if-not-whole.false c.in_ok-whole.ensures c.first_name.ensures c.sort_with.ensures c.in-None.is
-
-pub returns : goal.returns
-returns c = form-end c.args.mode c.args.tokens.now c.loop-i.i c.loop-i.stack c.loop-i.outline c.finish.new.values c.in_ok-whole.whole c.first_name.result c.sort_with.result c.in-Some-sort_with.sort
-    c.loop-i-test.false c.loop-i.invariant c.if-not-whole.false c.in_ok-whole.ensures c.first_name.ensures c.sort_with.ensures c.in-Some-sort_with.is
+unreachable-requires c = no-name c.args.mode c.args.tokens.now c.outlined.new.outline c.first_name.result c.sort_with.result c.in_ok-outlined.field-0
+    c.in-Whole.is c.in_ok-outlined.ensures c.first_name.ensures c.sort_with.ensures c.in-None.is
