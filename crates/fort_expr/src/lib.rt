@@ -8,7 +8,10 @@ mod parsing;
 mod value;
 mod words;
 
-pub use build::Tracked;
+pub use build::{
+    Tracked, built, name_of, place_of, pop_bound, pop_operand, pop_subscripts, pop_word,
+    reference_to,
+};
 pub use parsing::{Outcome, expression};
 pub use value::{Shape, Value, Word};
 
