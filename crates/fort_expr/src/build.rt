@@ -15,7 +15,8 @@ const NOWHERE: Place = Place {
     column: 0,
 };
 
-fn pop_word(values: &mut Stack<Value>) -> Option<Word>
+/// Takes the word on top. `None` where something else stands there; it is taken too.
+pub fn pop_word(values: &mut Stack<Value>) -> Option<Word>
     ensures value { result ≡ word values.old }
     ensures below { values.new ≡ rest values.old }
 {
@@ -25,7 +26,7 @@ fn pop_word(values: &mut Stack<Value>) -> Option<Word>
     }
 }
 
-/// Takes the expression on top, with the place of its first token.
+/// Takes the expression on top, with the place of its first token; `.false.` at no place where something else stands there.
 pub fn pop_operand(values: &mut Stack<Value>) -> (Expr, Place)
     ensures value { result.0 ≡ operand values.old }
     ensures place { result.1 ≡ operand_place values.old }
@@ -37,7 +38,8 @@ pub fn pop_operand(values: &mut Stack<Value>) -> (Expr, Place)
     }
 }
 
-fn pop_bound(values: &mut Stack<Value>) -> Option<Expr>
+/// Takes the bound on top, which is `None` where none is written or something else stands there.
+pub fn pop_bound(values: &mut Stack<Value>) -> Option<Expr>
     ensures value { result ≡ bound values.old }
     ensures below { values.new ≡ rest values.old }
 {
@@ -57,7 +59,8 @@ fn pop_subscript(values: &mut Stack<Value>) -> Sub
     }
 }
 
-fn pop_subscripts(alloc: Global, values: &mut Stack<Value>) -> Seq<Sub>
+/// Takes the subscripts on top, none where something else stands there.
+pub fn pop_subscripts(alloc: Global, values: &mut Stack<Value>) -> Seq<Sub>
     ensures value { result ≡ subscripts values.old }
     ensures below { values.new ≡ rest values.old }
 {
@@ -67,7 +70,8 @@ fn pop_subscripts(alloc: Global, values: &mut Stack<Value>) -> Seq<Sub>
     }
 }
 
-fn place_of(word: &Option<Word>) -> Place
+/// Where the word stands.
+pub fn place_of(word: &Option<Word>) -> Place
     ensures { result ≡ word_place word.now }
 {
     match word {
@@ -85,7 +89,8 @@ fn name_x() -> Name
     }
 }
 
-fn name_of(word: &Option<Word>) -> Name
+/// The name that the word is, and `x` where it is none.
+pub fn name_of(word: &Option<Word>) -> Name
     ensures { result ≡ name word.now }
 {
     match word {
@@ -119,7 +124,8 @@ fn truth_in(word: &Option<Word>) -> Expr
     }
 }
 
-fn reference_to(word: &Option<Word>, subs: Option<Seq<Sub>>) -> Expr
+/// The reference that the word is with these subscripts, or without any.
+pub fn reference_to(word: &Option<Word>, subs: Option<Seq<Sub>>) -> Expr
     ensures { result ≡ reference word.now subs }
 {
     Expr::Ref(name_of(word), subs, place_of(word))
@@ -153,9 +159,12 @@ fn two(alloc: Global, values: &mut Stack<Value>) -> Result<Value, NoMemory>
     Ok(Value::Operand(Expr::Two(op, left, right), at))
 }
 
-/// What an action builds of the values, which it takes.
+/// What an action of an expression's rows builds of the values, which it takes; for another action that is a bound that isn't written.
+///
+/// # Errors
+/// `NoMemory` only where memory was refused.
 #[tactic(auto, unfolding(crate::specs::Values::apply))]
-fn built(alloc: Global, action: Action, values: &mut Stack<Value>) -> Result<Value, NoMemory>
+pub fn built(alloc: Global, action: Action, values: &mut Stack<Value>) -> Result<Value, NoMemory>
     ensures { IfOk result (λ top. top ∷ values.new ≡ apply action values.old) }
 {
     match action {

@@ -3,6 +3,7 @@
 //! The relation of statement forms (specs/Form) has a constructor for each form, and the table of the grammar is shown to derive exactly it.
 #![tactic(auto)]
 
+mod build;
 mod building;
 mod judging;
 mod laws;
