@@ -134,7 +134,7 @@ fn is_deep_at(
 /// and each of a DO's three is judged by itself: a name, number or truth value is past the limit where what it stands in, cut behind it and with its open
 /// parentheses closed, is deeper than 64, in a target text 96. The limits are this project's own.
 ///
-/// No tree is built, and there is no recursion: the time is in proportion to the tokens.
+/// No tree is built, and nothing recurses. The time is at most in proportion to the tokens and to the limit of depth.
 ///
 /// # Errors
 /// `NoMemory` only where memory was refused.
