@@ -1,5 +1,5 @@
 -- Where a portion stands in a statement's tokens, it stands on top of the symbols that are wanted when they are read.
-use Rattle.std.proofs.Common.{◌≡◌, ℕ, ◌+◌, true, List, [], ◌∷◌, ◌++◌, map, Some, refl, ap}
+use Rattle.std.proofs.Common.{◌≡◌, ℕ, true, List, [], ◌∷◌, ◌++◌, map, Some, refl}
 use Rattle.fort_tree.specs.declared.expr.Expr.{Expr}
 use Rattle.fort_tree.specs.declared.expr.Sub.{Sub}
 use Rattle.fort_tree.specs.declared.statement.Token.{Token}
