@@ -16,7 +16,7 @@ use Rattle.fort_grammar.specs.Choose.{member, chosen}
 use Rattle.fort_grammar.specs.Derives.{In, done, take, build, row}
 use Rattle.fort_grammar.specs.First.{all_first, firsts, nulls}
 use Rattle.fort_grammar.specs.Sets.{weight}
-use Rattle.fort_expr.specs.Shapes.{shift_shape, apply_shape, operand_depth}
+use Rattle.fort_expr.specs.Shapes.{shift_shape, apply_shape, top_depth}
 use Rattle.fort_expr.specs.Closing.{Shaped, Closers, ClosesAt}
 use Rattle.fort_grammar.proofs.Productive.{token_of, class-sample}
 use Rattle.fort_grammar.specs.Token.{token_class}
@@ -93,13 +93,13 @@ runs-take s0 v0 c y s ss v e f ne h0 z u k d =
     let b : Closers (p.0 ∷ p.1) = subst Closers p.2 j.1 in
     ne (sym p.3 ∙ b.0)
 
-pub runs-end : (s0 : List Symbol) (v0 : List Shape) (s : List Symbol) (v : List Shape) (d : ℕ) → s ≡ [] → d ≡ operand_depth v → Runs s0 v0 s v → ClosesAt d s0 v0
+pub runs-end : (s0 : List Symbol) (v0 : List Shape) (s : List Symbol) (v : List Shape) (d : ℕ) → s ≡ [] → d ≡ top_depth v → Runs s0 v0 s v → ClosesAt d s0 v0
 runs-end s0 v0 s v d e f h0 =
     let h = subst (λ q. Runs s0 v0 q v) e h0 in
     let b = h.back [] v tt done in
     record {
       some = (b.0, v, b.1, b.2);
-      all = λ z u c k. let j = h.ahead z u c k in ap operand_depth (sym (inv-nil (List Shape) shift_shape apply_shape j.2).1) ∙ sym f;
+      all = λ z u c k. let j = h.ahead z u c k in ap top_depth (sym (inv-nil (List Shape) shift_shape apply_shape j.2).1) ∙ sym f;
     }
 
 -- the measure of the closing run

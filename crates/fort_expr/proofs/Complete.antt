@@ -109,12 +109,12 @@ module _ (D : List Symbol → List Token → List Value → Type 0) (g : Grows D
     subs_whole none ss v k = g.by_row _ (there here) (g.by_build refl k)
     subs_whole (some d) ss v k = list_tail d ss v (g.by_row _ (there here) k)
 
-    list_tail : {w z : List Token} {l : List Sub} → IsList w z l → (ss : List Symbol) (v : List Value) →
+    pub list_tail : {w z : List Token} {l : List Sub} → IsList w z l → (ss : List Symbol) (v : List Value) →
         D (Call part.SubTail ∷ ss) z (Subscripts l ∷ v) → D (Call part.Subs ∷ ss) w v
     list_tail (one d) ss v k = g.by_row _ here (sub_whole d (Build act.FirstSub ∷ Call part.SubTail ∷ ss) v (g.by_build refl k))
     list_tail (more {l = l} c d e s) ss v k = list_tail d ss v (g.by_row _ here (g.by_take c e (sub_whole s (Build act.NextSub ∷ Call part.SubTail ∷ ss) (Written (word_of c) ∷ Subscripts l ∷ v) (g.by_build refl k))))
 
-    sub_whole : {w z : List Token} {s : Sub} → IsSub w z s → (ss : List Symbol) (v : List Value) →
+    pub sub_whole : {w z : List Token} {s : Sub} → IsSub w z s → (ss : List Symbol) (v : List Value) →
         D ss z (Subscript s ∷ v) → D (Call part.Sub ∷ ss) w v
     sub_whole (single d) ss v k = g.by_row _ here (expr_tail d (Call part.SubRest ∷ ss) v (g.by_row _ (there here) (g.by_row _ (there here) (g.by_build refl k))))
     sub_whole (section c absent e b) ss v k = g.by_row _ (there here) (g.by_take c e (bound_whole b (Build act.FromStart ∷ ss) (Written (word_of c) ∷ v) (g.by_build refl k)))

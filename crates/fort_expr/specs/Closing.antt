@@ -6,7 +6,7 @@ use Rattle.fort_grammar.specs.declared.table.Symbol.{Symbol}
 use Rattle.fort_grammar.specs.Derives.{Derives}
 use Rattle.fort_grammar.specs.Token.{token_class}
 use Rattle.fort_expr.specs.declared.value.Shape.{Shape}
-use Rattle.fort_expr.specs.Shapes.{shift_shape, apply_shape, operand_depth}
+use Rattle.fort_expr.specs.Shapes.{shift_shape, apply_shape, top_depth}
 
 abbrev pub Shaped : List Symbol → List Token → List Shape → List Shape → Type 0
 Shaped ss w v u = Derives (List Shape) shift_shape apply_shape ss w v u
@@ -19,7 +19,7 @@ Closers (t ∷ z) = (token_class t ≡ class.Close) × Closers z
 -- closing parentheses complete the state, and all that do give this depth
 pub record ClosesAt (d : ℕ) (s : List Symbol) (v : List Shape) : Type 0 where
   pub some : (z : List Token) × (u : List Shape) × Closers z × Shaped s z v u
-  pub all : (z : List Token) (u : List Shape) → Closers z → Shaped s z v u → operand_depth u ≡ d
+  pub all : (z : List Token) (u : List Shape) → Closers z → Shaped s z v u → top_depth u ≡ d
 
 abbrev pub Closes : Option ℕ → List Symbol → List Shape → Type 0
 Closes (Some d) s v = ClosesAt d s v
@@ -28,4 +28,4 @@ Closes None s v = (z : List Token) (u : List Shape) → Closers z → Shaped s z
 -- the depth that closing parentheses give is above the limit, or none that they give is
 abbrev pub Judges : Bool → ℕ → List Symbol → List Shape → Type 0
 Judges true limit s v = (d : ℕ) × (limit < d) × ClosesAt d s v
-Judges false limit s v = (z : List Token) (u : List Shape) → Closers z → Shaped s z v u → operand_depth u ≤ limit
+Judges false limit s v = (z : List Token) (u : List Shape) → Closers z → Shaped s z v u → top_depth u ≤ limit

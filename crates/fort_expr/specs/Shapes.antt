@@ -35,6 +35,12 @@ abbrev pub operand_depth : List Shape → ℕ
 operand_depth (Operand d ∷ xs) = d
 operand_depth _ = 1
 
+-- of an expression or a subscript
+abbrev pub top_depth : List Shape → ℕ
+top_depth (Operand d ∷ xs) = d
+top_depth (Subscript d ∷ xs) = d
+top_depth _ = 1
+
 abbrev pub bound_shape : List Shape → ℕ
 bound_shape (Bound d ∷ xs) = d
 bound_shape _ = 0

@@ -1,6 +1,6 @@
 //! How deep an expression is that is cut behind a token, its open parentheses closed.
 ghost use Rattle.std.specs.Prelude.{◌≡◌, ◌∷◌, ◌+◌, max, IfOk};
-ghost use Rattle.fort_expr.specs.Shapes.{cap, rest_shapes, operand_depth, bound_shape, subscript_shape, subscripts_shape, apply_shape};
+ghost use Rattle.fort_expr.specs.Shapes.{cap, rest_shapes, operand_depth, top_depth, bound_shape, subscript_shape, subscripts_shape, apply_shape};
 ghost use Rattle.fort_expr.specs.Closing.{Closes, Judges};
 ghost use Rattle.fort_expr.specs.Faults.{is_leaf as leaf_test};
 ghost use Rattle.fort_expr.specs.Machine.{JudgesAt};
@@ -22,6 +22,16 @@ fn pop_operand(shapes: &mut Stack<Shape>) -> u32
 {
     match shapes.pop() {
         Some(Shape::Operand(depth)) => depth,
+        _ => 1,
+    }
+}
+
+fn pop_depth(shapes: &mut Stack<Shape>) -> u32
+    ensures { result ≡ top_depth shapes.old }
+{
+    match shapes.pop() {
+        Some(Shape::Operand(depth)) => depth,
+        Some(Shape::Subscript(depth)) => depth,
         _ => 1,
     }
 }
@@ -127,7 +137,7 @@ pub fn shape_of(action: Action, shapes: &mut Stack<Shape>) -> Shape
     }
 }
 
-/// The depth of the expression that is cut here, its open parentheses closed, or nothing where more than these is wanted.
+/// The depth of the expression or subscript that is cut here, its open parentheses closed, or nothing where more than these is wanted.
 fn close(mut stack: Stack<Symbol>, mut shapes: Stack<Shape>) -> Result<Option<u32>, NoMemory>
     ensures { IfOk result (λ d. Closes d stack shapes) }
 {
@@ -151,7 +161,7 @@ fn close(mut stack: Stack<Symbol>, mut shapes: Stack<Shape>) -> Result<Option<u3
             },
         }
     }
-    Ok(Some(pop_operand(&mut shapes)))
+    Ok(Some(pop_depth(&mut shapes)))
 }
 
 /// Whether the class is of names, numbers or truth values.
@@ -176,7 +186,8 @@ fn cut(alloc: Global, stack: &Stack<Symbol>, shapes: &Stack<Shape>) -> Result<Op
     close(symbols, copies)
 }
 
-/// Whether the expression that is cut here, its open parentheses closed, is deeper than the limit. It is not where more than closing parentheses is wanted.
+/// Whether the expression or subscript that is cut here, its open parentheses closed, is deeper than the limit. It is not where more than closing parentheses is
+/// wanted.
 ///
 /// # Errors
 /// `NoMemory` only where memory was refused.

@@ -1,5 +1,5 @@
 -- What is known of tokens that are read from the left.
-use Rattle.std.proofs.Common.{◌≡◌, ◌⊎◌, ℕ, ◌+◌, false, true, inl, inr, length, List, [], ◌∷◌, ◌++◌, Some, refl, sym, ◌∙◌, ap, subst, append_assoc, arith}
+use Rattle.std.proofs.Common.{◌≡◌, ◌⊎◌, ℕ, ◌+◌, ◌≤◌, false, true, inl, inr, length, List, [], ◌∷◌, ◌++◌, Some, refl, sym, ◌∙◌, ap, subst, append_assoc, arith}
 use Rattle.std.proofs.lemmas.Bool.{or_left}
 use Rattle.std.proofs.lemmas.List.{length-append}
 use Rattle.fort_tree.specs.declared.statement.Token.{Token}
@@ -104,6 +104,12 @@ module _ (V : Type 0) (shift : Token → V → V) (apply : Action → V → V) w
   through (derives.take t e d) = taken t e (through d)
   through (derives.build d) = built (through d)
   through (derives.row r i d) = by_row r i (through d)
+
+  pub no-longer : {z : List Token} {u : V} {ss : List Symbol} {w : List Token} {v : V} → Through V shift apply z u ss w v → length z ≤ length w
+  no-longer done = omega arith
+  no-longer (taken {w = w} t e d) = let h = no-longer d in omega (arith, h)
+  no-longer (built d) = no-longer d
+  no-longer (by_row r i d) = no-longer d
 
   -- What is read goes by the rows that the tokens call for, so it is one.
 

@@ -21,20 +21,21 @@ use Rattle.fort_expr.specs.declared.value.Shape.{Shape}
 use Rattle.fort_expr.specs.declared.value.Value.{Value}
 use Rattle.fort_expr.specs.Closing.{Shaped}
 use Rattle.fort_expr.specs.Faults.{depth_limit, token_limit, is_leaf}
-use Rattle.fort_expr.specs.Shapes.{cap, shape, operand_depth, shift_shape, apply_shape}
+use Rattle.fort_expr.specs.Shapes.{cap, shape, top_depth, shift_shape, apply_shape}
 use Rattle.fort_expr.specs.Values.{shift, apply}
 use Rattle.fort_expr.proofs.ShapeLemmas.{apply-shape}
 use Rattle.fort_stmt.specs.declared.limits.Cut.{Cut}
+use Rattle.fort_stmt.specs.declared.limits.Cut.TheVariants as cuts
 use Rattle.fort_stmt.specs.declared.limits.Depths.{Depths}
 use Rattle.fort_stmt.specs.declared.value.Draft.{Draft}
-use Rattle.fort_stmt.specs.Cuts.{shift_depths, apply_depths, cut_of, cut_limit, JudgesCut, JudgesAt}
+use Rattle.fort_stmt.specs.Cuts.{shift_depths, apply_depths, cut_of, JudgesCut, JudgesAt}
 use Rattle.fort_stmt.specs.Faults.{Begins}
 use Rattle.fort_stmt.specs.Form.{IsStatement}
 use Rattle.fort_stmt.specs.Limits.{TooDeepAt, PastLimit, FirstPastLimit}
 use Rattle.fort_stmt.specs.Machine.{start}
 use Rattle.fort_stmt.specs.Values.{act_on, take_in, blank}
 use Rattle.fort_stmt.proofs.Complete.{derives-form}
-use Rattle.fort_stmt.proofs.Portions.{Located, found, more}
+use Rattle.fort_stmt.proofs.Portions.{Located, found}
 use Rattle.fort_stmt.proofs.Reached.{Judged, judged}
 use Rattle.fort_stmt.proofs.Sound.{form-derived}
 use Rattle.fort_stmt.proofs.Stops.{next-front}
@@ -73,17 +74,13 @@ values-read r = unseen-reading (List Value) Depths shift apply shift_depths appl
 start-good : Good start
 start-good = ((λ c h. absurd (true≢false (sym h))), tt)
 
-limit-past : (mode : Mode) (f : Bool) (d n : ℕ) → cut_limit mode f < n → n ≡ cap (more f d) → depth_limit mode < d
-limit-past Source true d n h e = omega (arith, h, e)
-limit-past Source false d n h e = omega (arith, h, e)
-limit-past Target true d n h e = omega (arith, h, e)
-limit-past Target false d n h e = omega (arith, h, e)
+limit-past : (mode : Mode) (d n : ℕ) → depth_limit mode < n → n ≡ cap d → depth_limit mode < d
+limit-past Source d n h e = omega (arith, h, e)
+limit-past Target d n h e = omega (arith, h, e)
 
-limit-kept : (mode : Mode) (f : Bool) (d n : ℕ) → n ≤ cut_limit mode f → n ≡ cap (more f d) → depth_limit mode < d → ⊥
-limit-kept Source true d n h e k = omega (arith, h, e, k)
-limit-kept Source false d n h e k = omega (arith, h, e, k)
-limit-kept Target true d n h e k = omega (arith, h, e, k)
-limit-kept Target false d n h e k = omega (arith, h, e, k)
+limit-kept : (mode : Mode) (d n : ℕ) → n ≤ depth_limit mode → n ≡ cap d → depth_limit mode < d → ⊥
+limit-kept Source d n h e k = omega (arith, h, e, k)
+limit-kept Target d n h e k = omega (arith, h, e, k)
 
 token-eq : (t x : Token) → Some t ≡ Some x → t ≡ x
 token-eq t x h = cc
@@ -93,12 +90,15 @@ token-eq t x h = cc
 cut-deep : (mode : Mode) (tokens : List Token) (i : ℕ) (t : Token) (s : List Symbol) (v : Depths) (o : Option Cut) → slice_get tokens i ≡ Some t → is_leaf (token_class t) ≡ true →
     Read (take (i + 1) tokens) s v → cut_of s ≡ o → JudgesCut true mode o v.shapes → TooDeepAt mode tokens i
 cut-deep mode tokens i t s v None g l r e j = absurd (true≢false j)
-cut-deep mode tokens i t s v (Some c) g l r e j =
+cut-deep mode tokens i t s v (Some cuts.Arguments) g l r e j = absurd (true≢false j)
+cut-deep mode tokens i t s v (Some cuts.Close) g l r e j = absurd (true≢false j)
+cut-deep mode tokens i t s v (Some cuts.Tail) g l r e j = absurd (true≢false j)
+cut-deep mode tokens i t s v (Some (cuts.Portion c)) g l r e j =
     let closes = j.2 in
     let z = closes.some.0 in
     let k = values-read (r z) in
     let p = unseen (List Value) (List Shape) shift apply shift_shape apply_shape (λ q. map shape q) (λ x q. refl) apply-shape closes.some.3 k.0 (sym (ap (λ q. q.shapes) k.2)) in
-    let f : Located z p.0 (take (i + 1) tokens ++ z) c.of_call = found z k.0 p.0 closes.some.2 k.1 c e p.1 in
+    let f : Located z p.0 (take (i + 1) tokens ++ z) = found z k.0 p.0 closes.some.2 k.1 c e p.1 in
     record {
       token = t;
       at = g;
@@ -111,7 +111,7 @@ cut-deep mode tokens i t s v (Some c) g l r e j =
       depth = f.depth;
       stands = f.stands;
       has_depth = f.has_depth;
-      past = limit-past mode c.of_call f.depth j.0 j.1 (sym (closes.all z closes.some.1 closes.some.2 closes.some.3) ∙ (ap operand_depth (sym p.2) ∙ f.shaped));
+      past = limit-past mode f.depth j.0 j.1 (sym (closes.all z closes.some.1 closes.some.2 closes.some.3) ∙ (ap top_depth (sym p.2) ∙ f.shaped));
     }
 
 pub deep-at : (mode : Mode) (tokens : List Token) (i : ℕ) (t : Token) (s : List Symbol) (v : Depths) (b : Bool) → b ≡ true → slice_get tokens i ≡ Some t →
@@ -131,8 +131,8 @@ not-deep-at mode tokens i t s v b e g r j0 x =
     let one = one-reading (List Value) shift apply start-good k.1 n.read in
     let shapes : map shape n.values ≡ v.shapes = ap (λ q. map shape q) (sym one.1) ∙ ap (λ q. q.shapes) k.2 in
     let within = subst (λ o. JudgesCut false mode o v.shapes) (ap cut_of one.0 ∙ n.cut) (j (subst (λ q. is_leaf (token_class q) ≡ true) same x.leaf)) in
-    let closed = subst (λ q. Shaped n.portion.symbols x.closers q (map shape n.after)) shapes (seen (List Value) (List Shape) shift apply shift_shape apply_shape (λ q. map shape q) (λ y q. refl) apply-shape n.closed) in
-    limit-kept mode n.portion.of_call x.depth (operand_depth (map shape n.after)) (within x.closers (map shape n.after) x.closing closed) n.shaped x.past
+    let closed = subst (λ q. Shaped n.portion x.closers q (map shape n.after)) shapes (seen (List Value) (List Shape) shift apply shift_shape apply_shape (λ q. map shape q) (λ y q. refl) apply-shape n.closed) in
+    limit-kept mode x.depth (top_depth (map shape n.after)) (within x.closers (map shape n.after) x.closing closed) n.shaped x.past
 
 -- What is kept of the tokens that were taken.
 pub record Kept (mode : Mode) (tokens : List Token) (i : ℕ) (s : List Symbol) (v : Depths) : Type 0 where

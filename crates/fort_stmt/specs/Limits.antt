@@ -5,34 +5,35 @@ use Rattle.fort_tree.specs.declared.choice.Mode.{Mode}
 use Rattle.fort_tree.specs.declared.expr.Expr.{Expr}
 use Rattle.fort_tree.specs.declared.expr.Sub.{Sub}
 use Rattle.fort_tree.specs.declared.statement.Token.{Token}
-use Rattle.fort_tree.specs.Expr.{depth_of}
+use Rattle.fort_tree.specs.Expr.{depth_of, sub_depth_of}
 use Rattle.fort_grammar.specs.declared.class.Class.TheVariants as class
 use Rattle.fort_grammar.specs.Token.{token_class}
 use Rattle.fort_expr.specs.Closing.{Closers}
-use Rattle.fort_expr.specs.Expression.{IsExpr}
+use Rattle.fort_expr.specs.Expression.{IsExpr, IsList, IsSub}
 use Rattle.fort_expr.specs.Faults.{depth_limit, token_limit, is_leaf}
-use Rattle.fort_expr.specs.Shapes.{subs_depth}
 use Rattle.fort_stmt.specs.Faults.{Begins}
-use Rattle.fort_stmt.specs.Form.{IsWords, IsTarget, IsArguments}
+use Rattle.fort_stmt.specs.Form.{IsWords, IsTarget}
 
--- What is judged by itself: the left side of an assignment; an expression that is no part of another, as a right side, a test, or one of a DO's three; and what stands
--- behind the name of a CALL. (Bounds and values of declarations and of CASE are no deeper than 2 by their forms.)
+-- What is judged by itself: the left side of an assignment; an expression that is no part of another, as a right side, a test, or one of a DO's three; and an argument
+-- of a CALL. (Bounds and values of declarations and of CASE are no deeper than 2 by their forms.)
 pub data Portion : Type 0 where
   left_side : Portion
   expression : Portion
-  all_arguments : Portion
+  argument : Portion
 
--- The tokens are a portion of the sort, and it is this deep. Arguments are as deep as the deepest of them; a range is as deep as its deeper bound.
+-- The tokens are a portion of the sort, and it is this deep. An argument that is a range is as deep as its deeper bound.
 pub data HasDepth : Portion → List Token → ℕ → Type 0 where
   side_depth : {w : List Token} {e : Expr} → IsTarget w [] e → HasDepth left_side w (depth_of e)
   expression_depth : {w : List Token} {e : Expr} → IsExpr w [] e → HasDepth expression w (depth_of e)
-  arguments_depth : {w : List Token} {l : List Sub} → IsArguments w [] l → HasDepth all_arguments w (subs_depth l)
+  argument_depth : {w : List Token} {s : Sub} → IsSub w [] s → HasDepth argument w (sub_depth_of s)
 
 -- InAction x w y: the tokens w begin as an action, and in it a portion of the sort x begins with the tokens y.
 pub data InAction : Portion → List Token → List Token → Type 0 where
   at_left_side : {w : List Token} → InAction left_side w w
   at_right_side : {w z : List Token} {e : Expr} (o : Token) → IsTarget w (o ∷ z) e → token_class o ≡ class.Equals → InAction expression w z
-  at_arguments : {z : List Token} (c n : Token) → token_class c ≡ class.Call → token_class n ≡ class.Name → InAction all_arguments (c ∷ n ∷ z) z
+  first_argument : {z : List Token} (c n p : Token) → token_class c ≡ class.Call → token_class n ≡ class.Name → token_class p ≡ class.Open → InAction argument (c ∷ n ∷ p ∷ z) z
+  next_argument : {w z : List Token} {l : List Sub} (c n p k : Token) → token_class c ≡ class.Call → token_class n ≡ class.Name → token_class p ≡ class.Open → IsList w (k ∷ z) l → token_class k ≡ class.Comma →
+      InAction argument (c ∷ n ∷ p ∷ w) z
 
 -- Stands x w y: the tokens w begin as a statement, and in it a portion of the sort x begins with the tokens y.
 pub data Stands : Portion → List Token → List Token → Type 0 where

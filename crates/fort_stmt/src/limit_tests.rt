@@ -53,6 +53,67 @@ fn nested(alloc: Global, tokens: &mut Seq<Token>, count: usize) -> Result<(), Fa
     Ok(())
 }
 
+fn test_of_if(alloc: Global) -> Result<Seq<Token>, Fail> {
+    let mut tokens = Seq::new(alloc);
+    tokens.push(token(alloc, b"if")?)?;
+    tokens.push(token(alloc, b"(")?)?;
+    Ok(tokens)
+}
+
+fn test_of_else_if(alloc: Global) -> Result<Seq<Token>, Fail> {
+    let mut tokens = Seq::new(alloc);
+    tokens.push(token(alloc, b"else")?)?;
+    tokens.push(token(alloc, b"if")?)?;
+    tokens.push(token(alloc, b"(")?)?;
+    Ok(tokens)
+}
+
+fn expression_of_select(alloc: Global) -> Result<Seq<Token>, Fail> {
+    let mut tokens = Seq::new(alloc);
+    tokens.push(token(alloc, b"selectcase")?)?;
+    tokens.push(token(alloc, b"(")?)?;
+    Ok(tokens)
+}
+
+fn first_of_do(alloc: Global) -> Result<Seq<Token>, Fail> {
+    let mut tokens = Seq::new(alloc);
+    tokens.push(token(alloc, b"do")?)?;
+    tokens.push(token(alloc, b"i")?)?;
+    tokens.push(token(alloc, b"=")?)?;
+    Ok(tokens)
+}
+
+fn second_of_do(alloc: Global) -> Result<Seq<Token>, Fail> {
+    let mut tokens = first_of_do(alloc)?;
+    tokens.push(token(alloc, b"1")?)?;
+    tokens.push(token(alloc, b",")?)?;
+    Ok(tokens)
+}
+
+fn third_of_do(alloc: Global) -> Result<Seq<Token>, Fail> {
+    let mut tokens = second_of_do(alloc)?;
+    tokens.push(token(alloc, b"1")?)?;
+    tokens.push(token(alloc, b",")?)?;
+    Ok(tokens)
+}
+
+fn right_side_behind_if(alloc: Global) -> Result<Seq<Token>, Fail> {
+    let mut tokens = test_of_if(alloc)?;
+    tokens.push(token(alloc, b"x")?)?;
+    tokens.push(token(alloc, b")")?)?;
+    tokens.push(token(alloc, b"x")?)?;
+    tokens.push(token(alloc, b"=")?)?;
+    Ok(tokens)
+}
+
+/// Behind a name and `(` a subscript has one level less.
+fn left_side(alloc: Global) -> Result<Seq<Token>, Fail> {
+    let mut tokens = Seq::new(alloc);
+    tokens.push(token(alloc, b"x")?)?;
+    tokens.push(token(alloc, b"(")?)?;
+    Ok(tokens)
+}
+
 fn past(alloc: Global, mode: Mode, tokens: &Seq<Token>) -> Option<usize> {
     match first_past_limit(alloc, mode, tokens.items()) {
         Ok(first) => first,
@@ -82,6 +143,48 @@ fn depth_of_an_argument(rt: HostRuntime) -> Result<(), Fail> {
     let mut deep = call(alloc, 2)?;
     nested(alloc, &mut deep, 64)?;
     assert_eq!(rt; past(alloc, Mode::Source, &deep), Some(71));
+    Ok(())
+}
+
+/// The first token past a limit behind so many open parentheses, counted from the number in them.
+fn before_number(
+    alloc: Global,
+    tokens: &mut Seq<Token>,
+    count: usize,
+) -> Result<Option<usize>, Fail> {
+    nested(alloc, tokens, count)?;
+    let number = tokens.len().saturating_sub(1);
+    Ok(past(alloc, Mode::Source, tokens).map(|first| number.saturating_sub(first)))
+}
+
+#[test]
+fn depth_in_each_place(rt: HostRuntime) -> Result<(), Fail> {
+    let alloc = rt.alloc();
+    let heads: [fn(Global) -> Result<Seq<Token>, Fail>; 7] = [
+        test_of_if,
+        test_of_else_if,
+        expression_of_select,
+        first_of_do,
+        second_of_do,
+        third_of_do,
+        right_side_behind_if,
+    ];
+    for head in heads {
+        let mut within = head(alloc)?;
+        assert_eq!(rt; before_number(alloc, &mut within, 63)?, None);
+        let mut deep = head(alloc)?;
+        assert_eq!(rt; before_number(alloc, &mut deep, 64)?, Some(0));
+    }
+    Ok(())
+}
+
+#[test]
+fn depth_of_a_left_side(rt: HostRuntime) -> Result<(), Fail> {
+    let alloc = rt.alloc();
+    let mut within = left_side(alloc)?;
+    assert_eq!(rt; before_number(alloc, &mut within, 62)?, None);
+    let mut deep = left_side(alloc)?;
+    assert_eq!(rt; before_number(alloc, &mut deep, 63)?, Some(0));
     Ok(())
 }
 

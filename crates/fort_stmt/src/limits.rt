@@ -1,7 +1,7 @@
 //! The first token of a statement that is past a limit.
 ghost use Rattle.std.specs.Prelude.{◌≡◌, option_map, IfOk};
 ghost use Rattle.fort_grammar.specs.Token.{token_class};
-ghost use Rattle.fort_stmt.specs.Cuts.{on_top, above, above_action, cut_of, cut_limit as cut_limit_of, JudgesCut, JudgesAt};
+ghost use Rattle.fort_stmt.specs.Cuts.{grown as grown_cut, above, above_action, cut_of, JudgesCut, JudgesAt};
 ghost use Rattle.fort_stmt.specs.Limits.{FirstPastLimit};
 
 use fort_expr::{Shape, depth_limit, is_leaf, is_too_deep, shape_of, token_limit};
@@ -32,23 +32,38 @@ impl Build for Depths {
     }
 }
 
-/// What is judged by itself, on top of the symbols that are wanted.
+/// What stands on top of the symbols that are wanted: what is still wanted of what is judged by itself, or the end of a CALL's arguments.
 #[derive(Debug, Drop)]
-pub struct Cut {
-    /// What is wanted of it. The arguments of a CALL are taken for those of a reference.
-    pub symbols: Stack<Symbol>,
-    pub of_call: bool,
+pub enum Cut {
+    /// Nothing but the action behind the arguments.
+    Arguments,
+    /// The closing parenthesis too.
+    Close,
+    /// The tail of the list too. Only an argument's action stands before that argument.
+    Tail,
+    Portion(Stack<Symbol>),
 }
 
-fn put(symbol: Symbol, below: Option<Cut>) -> Result<Option<Cut>, NoMemory>
-    ensures { IfOk result (λ cut. cut ≡ option_map (on_top symbol) below) }
+fn grown(alloc: Global, symbol: Symbol, cut: Cut) -> Result<Cut, NoMemory>
+    ensures { IfOk result (λ more. more ≡ grown_cut symbol cut) }
+{
+    match cut {
+        Cut::Arguments => Ok(Cut::Close),
+        Cut::Close => Ok(Cut::Tail),
+        Cut::Tail => Ok(Cut::Portion(Stack::new(alloc))),
+        Cut::Portion(mut symbols) => {
+            symbols.push(symbol)?;
+            Ok(Cut::Portion(symbols))
+        }
+    }
+}
+
+fn put(alloc: Global, symbol: Symbol, below: Option<Cut>) -> Result<Option<Cut>, NoMemory>
+    ensures { IfOk result (λ cut. cut ≡ option_map (grown_cut symbol) below) }
 {
     match below {
         None => Ok(None),
-        Some(mut cut) => {
-            cut.symbols.push(symbol)?;
-            Ok(Some(cut))
-        }
+        Some(cut) => Ok(Some(grown(alloc, symbol, cut)?)),
     }
 }
 
@@ -56,19 +71,9 @@ fn put_action(alloc: Global, action: Action, below: Option<Cut>) -> Result<Optio
     ensures { IfOk result (λ cut. cut ≡ above_action action below) }
 {
     match action {
-        Action::Whole => Ok(Some(Cut {
-            symbols: Stack::new(alloc),
-            of_call: false,
-        })),
-        Action::Arguments => {
-            let mut symbols = Stack::new(alloc);
-            symbols.push(Symbol::Build(Action::Subscripted))?;
-            Ok(Some(Cut {
-                symbols,
-                of_call: true,
-            }))
-        }
-        _ => put(Symbol::Build(action), below),
+        Action::Whole => Ok(Some(Cut::Portion(Stack::new(alloc)))),
+        Action::Arguments => Ok(Some(Cut::Arguments)),
+        _ => put(alloc, Symbol::Build(action), below),
     }
 }
 
@@ -77,8 +82,8 @@ fn put_symbol(alloc: Global, symbol: Symbol, below: Option<Cut>) -> Result<Optio
 {
     match symbol {
         Symbol::Build(action) => put_action(alloc, action, below),
-        Symbol::Take(class) => put(Symbol::Take(class), below),
-        Symbol::Call(part) => put(Symbol::Call(part), below),
+        Symbol::Take(class) => put(alloc, Symbol::Take(class), below),
+        Symbol::Call(part) => put(alloc, Symbol::Call(part), below),
     }
 }
 
@@ -92,16 +97,6 @@ fn cut_at(alloc: Global, stack: &Stack<Symbol>) -> Result<Option<Cut>, NoMemory>
     Ok(cut)
 }
 
-fn cut_limit(mode: Mode, of_call: bool) -> u32
-    ensures { result ≡ cut_limit_of mode of_call }
-{
-    if of_call {
-        depth_limit(mode) + 1
-    } else {
-        depth_limit(mode)
-    }
-}
-
 fn judge(
     alloc: Global,
     mode: Mode,
@@ -111,8 +106,8 @@ fn judge(
     ensures { IfOk result (λ b. JudgesCut b mode cut.now shapes.now) }
 {
     match cut {
-        None => Ok(false),
-        Some(cut) => is_too_deep(alloc, &cut.symbols, shapes, cut_limit(mode, cut.of_call)),
+        Some(Cut::Portion(symbols)) => is_too_deep(alloc, symbols, shapes, depth_limit(mode)),
+        _ => Ok(false),
     }
 }
 
@@ -139,7 +134,7 @@ fn is_deep_at(
 /// and each of a DO's three is judged by itself: a name, number or truth value is past the limit where what it stands in, cut behind it and with its open
 /// parentheses closed, is deeper than 64, in a target text 96. The limits are this project's own.
 ///
-/// No tree is built, and there is no recursion: the time is in proportion to the tokens.
+/// No tree is built, and nothing recurses. The time is at most in proportion to the tokens and to the limit of depth.
 ///
 /// # Errors
 /// `NoMemory` only where memory was refused.

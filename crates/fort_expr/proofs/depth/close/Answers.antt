@@ -27,4 +27,4 @@ loop-symbol-preserved c = runs-call c.args.stack c.args.shapes c.in-Call.part c.
     c.in-Some.ensures c.in-Call.is c.in-Some-choose.ensures.1 c.in-Some-choose.ensures.2 c.in_ok-push_row-in-Some-choose.ensures c.loop-symbol.invariant
 
 pub returns : goal.returns
-returns c = runs-end c.args.stack c.args.shapes c.loop-symbol.stack c.loop-symbol.shapes c.pop_operand.result c.in_default.ensures.0 c.pop_operand.ensures.value c.loop-symbol.invariant
+returns c = runs-end c.args.stack c.args.shapes c.loop-symbol.stack c.loop-symbol.shapes c.pop_depth.result c.in_default.ensures.0 c.pop_depth.ensures c.loop-symbol.invariant
