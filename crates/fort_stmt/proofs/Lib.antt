@@ -1,4 +1,5 @@
 pub mod Complete
+pub mod Nested
 pub mod Passing
 pub mod Portions
 pub mod Reached

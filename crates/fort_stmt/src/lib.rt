@@ -9,7 +9,7 @@ mod parsing;
 mod value;
 
 pub use laws::statements_are_derived;
-pub use limits::first_past_limit;
+pub use limits::{first_past_limit, parentheses_count};
 pub use parsing::Outcome;
 pub use value::{Draft, Entity};
 
