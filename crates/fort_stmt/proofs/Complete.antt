@@ -1,21 +1,18 @@
 -- The tokens of a statement derive it.
-use Rattle.std.proofs.Common.{◌≡◌, ℕ, true, List, [], ◌∷◌, ◌++◌, map, Option, None, Some, refl, sym, ap, subst}
+use Rattle.std.proofs.Common.{◌≡◌, ℕ, true, List, [], ◌∷◌, ◌++◌, Option, None, Some, refl, sym, ap, subst}
 use Rattle.std.proofs.lemmas.Bool.{true≢false}
 use Rattle.fort_arith.specs.declared.op.Op.TheVariants as op
 use Rattle.fort_tree.specs.declared.expr.Expr.{Expr}
 use Rattle.fort_tree.specs.declared.expr.Expr.TheVariants as expr
 use Rattle.fort_tree.specs.declared.expr.Sub as subscript
-use Rattle.fort_tree.specs.declared.statement.EndWord.TheVariants as word_of_end
 use Rattle.fort_tree.specs.declared.statement.Statement.{Statement}
 use Rattle.fort_tree.specs.declared.statement.Statement.TheVariants as statement
 use Rattle.fort_tree.specs.declared.statement.Token.{Token}
 use Rattle.fort_tree.specs.declared.stmt.Named.{Named}
 use Rattle.fort_tree.specs.declared.stmt.Range.{Range}
-use Rattle.fort_tree.specs.declared.stmt.Range.TheVariants as range
 use Rattle.fort_tree.specs.declared.unit.Bound.{Bound}
 use Rattle.fort_tree.specs.declared.unit.Decl.{Decl}
 use Rattle.fort_tree.specs.declared.unit.Intent.{Intent}
-use Rattle.fort_tree.specs.Name.{lowercase}
 use Rattle.fort_arith.specs.declared.kind.Kind.{Kind}
 use Rattle.fort_grammar.specs.declared.class.Class.{Class}
 use Rattle.fort_grammar.specs.declared.class.Class.TheVariants as class
@@ -32,13 +29,13 @@ use Rattle.fort_grammar.specs.Token.{token_class}
 use Rattle.fort_expr.specs.declared.value.Value.{Value}
 use Rattle.fort_expr.specs.declared.value.Value.TheVariants as value
 use Rattle.fort_expr.specs.Expression.{IsExpr, IsReferred, IsRef, IsSubs, IsNumber, a_name, an_intrinsic, a_number, a_kind_number}
-use Rattle.fort_expr.specs.Values.{apply, builds_expression, word_of, shift}
+use Rattle.fort_expr.specs.Values.{apply, builds_expression, word_of}
 use Rattle.fort_expr.specs.Words.{front_place}
 use Rattle.fort_expr.proofs.Complete.{Grows, expr_tail, subs_whole, ref_whole}
 use Rattle.fort_expr.proofs.Names.{named}
 use Rattle.fort_stmt.specs.declared.value.Draft.{Draft}
 use Rattle.fort_stmt.specs.declared.value.Entity.{Entity}
-use Rattle.fort_stmt.specs.Form.{named_of, number_of_token, name_of_token, declared, Header, IsWords, IsEndName, IsNames, IsNamesOption, IsDummies, IsResult, IsFunction, IsKind, IsType, IsBound, IsBoundOption, IsDimension, IsShape, IsOwnShape, IsInitial, IsEntity, IsEntities, IsConstant, IsConstants, IsIntent, IsIntentAttribute, IsDimensionAttribute, IsAttributes, IsDeclaration, IsValue, IsValueOption, IsRange, IsRanges, IsTarget, IsArguments, IsAssignment, IsAction, IsStep, IsForm}
+use Rattle.fort_stmt.specs.Form.{named_of, number_of_token, Header, IsEndName, IsNames, IsNamesOption, IsDummies, IsResult, IsFunction, IsKind, IsType, IsBound, IsBoundOption, IsDimension, IsShape, IsOwnShape, IsInitial, IsEntities, IsConstants, IsIntent, IsDeclaration, IsValue, IsValueOption, IsRanges, IsArguments, IsAssignment, IsAction, IsStep, IsForm}
 use Rattle.fort_stmt.specs.Form.{apart, together, no_name, some_name, first_name, next_name, no_names, some_names, no_dummies, dummies, no_result, some_result, a_function, no_kind, a_kind, keyword_kind, integer, logical, bound_number, bound_negative, bound_name, bound_plus, bound_minus, no_bound, some_bound, assumed, upper_only, bounds, first_dimension, next_dimension, no_shape, some_shape, initial_number, initial_negative, initial_truth, entity, first_entity, next_entity, constant, first_constant, next_constant, intent_in, intent_out, intent_in_out, an_intent, a_dimension, no_attribute, no_attribute_colons, intent_alone, dimension_alone, intent_dimension, dimension_intent, variables, constants, value_number, value_negative, value_name, no_value, some_value, one_value, to_value, span, first_range, next_range, target, no_arguments, arguments, assign, assignment, call, exit, cycle, return, no_step, some_step, a_module, contains, end_bare, end_module, end_subroutine, end_function, subroutine, function, prefixed, use_all, use_only, implicit_none, declare, action, if_then, if_action, else_if, else_bare, end_if, a_do, end_do, select, end_select, case, case_default}
 use Rattle.fort_stmt.specs.Values as values
 use Rattle.fort_stmt.specs.Values.{act_on, take_in, with_values}

@@ -1,6 +1,5 @@
 -- The first fault is the earlier of that of form or profile and the first token past a limit.
-use Rattle.std.proofs.Common.{◌≡◌, ◌⊎◌, ℕ, ◌+◌, ◌-◌, ◌<◌, ◌≤◌, min, Bool, true, false, cond, List, ◌++◌, take, drop, length, Option, None, Some, nat_lt, refl, sym, ◌∙◌, ap, subst, inl, inr, append_assoc, arith}
-use Rattle.std.specs.List.{slice_get}
+use Rattle.std.proofs.Common.{◌≡◌, ◌⊎◌, ℕ, ◌+◌, ◌-◌, ◌<◌, ◌≤◌, min, Bool, false, List, ◌++◌, take, drop, length, Option, None, Some, nat_lt, refl, sym, ◌∙◌, ap, subst, inl, inr, append_assoc, arith}
 use Rattle.std.specs.Option.{is_some}
 use Rattle.std.proofs.lemmas.Bool.{true≢false, cases_lt, cases_Bool, cases_order, cond-true, cond-false, ltb-true, ltb-false}
 use Rattle.std.proofs.lemmas.List.{take-append-drop, take-take}
@@ -8,7 +7,6 @@ use Rattle.std.proofs.lemmas.Option.{slice_get_within}
 use Rattle.fort_tree.specs.declared.choice.Mode.{Mode}
 use Rattle.fort_tree.specs.declared.fault.Code.{Code}
 use Rattle.fort_tree.specs.declared.fault.Code.TheVariants as code
-use Rattle.fort_tree.specs.declared.statement.Statement.{Statement}
 use Rattle.fort_tree.specs.declared.statement.Token.{Token}
 use Rattle.fort_stmt.specs.declared.judging.Extent.{Extent}
 use Rattle.fort_stmt.specs.declared.judging.Extent.TheVariants as extent
@@ -19,7 +17,7 @@ use Rattle.fort_stmt.specs.declared.outline.Outline.{Outline}
 use Rattle.fort_stmt.specs.Faults.{Begins, Run, NoStatement, OutsideAt, Inside, Extends, Judges}
 use Rattle.fort_stmt.specs.Form.{IsStatement}
 use Rattle.fort_stmt.specs.Limits.{PastLimit, FirstPastLimit}
-use Rattle.fort_stmt.specs.Verdict.{HasFault, outside, syntax, limit, rank, NotBehind, FirstFault, NoFault, IsFirst, of_form, of_limit, earlier}
+use Rattle.fort_stmt.specs.Verdict.{HasFault, outside, syntax, limit, rank, NotBehind, IsFirst, of_form, of_limit, earlier}
 
 -- a statement can begin with fewer tokens too
 begins-shorter : (tokens : List Token) (a b : ℕ) → a ≤ b → Begins (take b tokens) → Begins (take a tokens)

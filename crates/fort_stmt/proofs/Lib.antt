@@ -1,5 +1,6 @@
 pub mod Complete
 pub mod Firsts
+pub mod Nested
 pub mod Outlines
 pub mod OutsideLaws
 pub mod Passing

@@ -1,5 +1,5 @@
 -- The outline that the rows build is that of the statement, and with the first name it gives the statement's sort.
-use Rattle.std.proofs.Common.{◌≡◌, ℕ, Bool, true, false, cond, List, [], ◌∷◌, ◌++◌, ◌↔◌, ◌+◌, ◌<◌, suc, add-one, length, drop, codes, Option, None, Some, refl, sym, ◌∙◌, ap, subst}
+use Rattle.std.proofs.Common.{◌≡◌, ℕ, true, false, List, ◌∷◌, ◌↔◌, ◌+◌, suc, add-one, drop, Option, None, Some, refl, sym, ◌∙◌, ap, subst}
 use Rattle.std.specs.Prelude.{IsTrue, IsSome, IfSome}
 use Rattle.std.proofs.lemmas.Bool.{cond-true, cond-false, false≢true}
 use Rattle.std.proofs.lemmas.Option.{get_or_from_slice_get, slice_get_within}
@@ -10,10 +10,9 @@ use Rattle.fort_grammar.specs.declared.class.Class.{Class}
 use Rattle.fort_grammar.specs.declared.class.Class.TheVariants as class
 use Rattle.fort_grammar.specs.Choose.{same}
 use Rattle.fort_grammar.specs.Token.{token_class}
-use Rattle.fort_grammar.proofs.Theory.{same-eq, same-refl}
+use Rattle.fort_grammar.proofs.Theory.{same-eq}
 use Rattle.fort_expr.specs.Expression.{a_name}
 use Rattle.fort_expr.proofs.Names.{referred-name}
-use Rattle.fort_stmt.specs.declared.sort.Sort.{Sort}
 use Rattle.fort_tree.specs.declared.statement.Statement.{Statement, out-Statement}
 use Rattle.fort_tree.specs.declared.statement.Statement.TheOpen.{Statement-F}
 use Rattle.fort_tree.specs.declared.statement.Statement.TheVariants as statement
@@ -28,7 +27,6 @@ use Rattle.fort_tree.specs.declared.stmt.Named.{Named}
 use Rattle.fort_tree.specs.declared.stmt.Range.{Range}
 use Rattle.fort_tree.specs.declared.unit.Decl.{Decl}
 use Rattle.fort_tree.specs.declared.unit.Use.{Use}
-use Rattle.fort_stmt.specs.declared.sort.ActionSort.TheVariants as sorts
 use Rattle.fort_arith.specs.declared.kind.Kind.{Kind}
 use Rattle.fort_grammar.specs.declared.table.Action.{Action}
 use Rattle.fort_grammar.specs.declared.table.Action.TheVariants as act
@@ -36,7 +34,6 @@ use Rattle.fort_grammar.specs.declared.table.Symbol.{Symbol}
 use Rattle.fort_grammar.specs.Derives.{Derives, done, take, build, row}
 use Rattle.fort_tree.specs.declared.statement.EndWord.TheVariants as word
 use Rattle.fort_stmt.specs.declared.outline.Outline.{Outline}
-use Rattle.fort_stmt.specs.declared.sort.ActionSort.{ActionSort}
 use Rattle.fort_stmt.specs.declared.value.Draft.{Draft}
 use Rattle.fort_stmt.specs.Form.{IsStatement, IsForm, IsAction, IsAssignment, IsWords, IsEndName, IsType, IsKind, IsFunction, Header}
 use Rattle.fort_stmt.specs.Form.{apart, together, no_name, some_name, a_function, no_kind, a_kind, keyword_kind, integer, logical, assign, assignment, call, exit, cycle, return}
@@ -44,7 +41,7 @@ use Rattle.fort_stmt.specs.Form.{a_module, contains, end_bare, end_module, end_s
 use Rattle.fort_stmt.specs.Machine.{Spelled, start}
 use Rattle.fort_stmt.specs.Outline.{outline_of, outline_of_level, acting, sketch_on, pass, first_name, sort_with}
 use Rattle.fort_stmt.specs.declared.outline.Outline.TheVariants as outline
-use Rattle.fort_stmt.specs.Sort.{action_of, action_of_level, sort_of, sort_of_level}
+use Rattle.fort_stmt.specs.Sort.{action_of_level, sort_of, sort_of_level}
 use Rattle.fort_stmt.specs.Values.{act_on, take_in, with_prefix, blank}
 use Rattle.fort_stmt.proofs.Complete.{derives-form}
 use Rattle.fort_stmt.proofs.Sound.{form-derived}

@@ -1,6 +1,6 @@
 -- The item that the tests give is the least, and there is one where they give one.
 use mathlib.Core.Bool.{not}
-use Rattle.std.proofs.Common.{◌≡◌, ◌⊎◌, ℕ, ◌≤◌, Bool, true, false, cond, ◌&&◌, ◌||◌, min, List, [], ◌∷◌, Option, None, Some, refl, sym, ◌∙◌, ap, subst, inl, inr, arith}
+use Rattle.std.proofs.Common.{◌≡◌, ◌⊎◌, ℕ, ◌≤◌, Bool, true, false, cond, ◌||◌, min, List, [], ◌∷◌, Option, None, Some, refl, sym, ◌∙◌, ap, subst, inl, inr, arith}
 use Rattle.std.specs.Bool.{Decides}
 use Rattle.std.proofs.lemmas.Bool.{true≢false}
 use Rattle.std.proofs.lemmas.Bool.Decides.{Decides-and, Decides-or, Decides-not, Decides-like}
@@ -16,7 +16,7 @@ use Rattle.fort_expr.specs.Expression.{IsNumber, a_number, a_kind_number}
 use Rattle.fort_expr.specs.Outside.{is_made_name}
 use Rattle.fort_stmt.specs.Outside.{Outside, opening, label, construct_name, do_alone, attribute, value, renamed, made_name, reserved_word, second_colon, double_colon, keyword, array_values}
 use Rattle.fort_stmt.specs.Outside.{first_item, attribute_item, first_class, has_parameter, no_variable, begins_greater, is_word, Begins, AttributeDue, DeclaresVariables, EntityEnds, InExpression, ArgumentBegins, ArgumentEnds}
-use Rattle.fort_stmt.specs.Outside.{when, lesser, is_empty, follows, is_number, begins, opening_item, is_label, is_do_alone, attribute_due, attribute_by, declares_variables, is_value, is_renamed, is_reserved_word, in_expression, argument_ends, is_second_colon, is_double_colon, is_keyword, begins_values, is_section, item_of}
+use Rattle.fort_stmt.specs.Outside.{when, lesser, is_empty, follows, is_number, begins, opening_item, is_label, is_do_alone, attribute_due, attribute_by, is_value, is_renamed, is_reserved_word, in_expression, argument_ends, is_second_colon, is_double_colon, is_keyword, begins_values, is_section, item_of}
 
 -- Tests and what they decide.
 

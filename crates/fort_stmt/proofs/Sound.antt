@@ -14,7 +14,6 @@ use Rattle.fort_tree.specs.declared.stmt.Named.{Named}
 use Rattle.fort_tree.specs.declared.stmt.Range.{Range}
 use Rattle.fort_tree.specs.declared.stmt.Range.TheVariants as range
 use Rattle.fort_tree.specs.declared.unit.Bound.{Bound}
-use Rattle.fort_tree.specs.declared.unit.Decl.{Decl}
 use Rattle.fort_tree.specs.declared.unit.Intent.{Intent}
 use Rattle.fort_tree.specs.Name.{lowercase}
 use Rattle.fort_grammar.specs.declared.class.Class.{Class}
@@ -31,8 +30,8 @@ use Rattle.fort_grammar.specs.Table.{Choice, table}
 use Rattle.fort_grammar.specs.Token.{token_class}
 use Rattle.fort_expr.specs.declared.value.Value.{Value}
 use Rattle.fort_expr.specs.declared.value.Value.TheVariants as value
-use Rattle.fort_expr.specs.Expression.{IsExpr, IsReferred, IsRef, IsSubs, IsNumber, a_name, an_intrinsic, a_number, a_kind_number}
-use Rattle.fort_expr.specs.Values.{apply, builds_expression, word_of, shift}
+use Rattle.fort_expr.specs.Expression.{IsExpr, IsReferred, IsNumber, a_name, an_intrinsic, a_number, a_kind_number}
+use Rattle.fort_expr.specs.Values.{apply, builds_expression, word_of}
 use Rattle.fort_expr.specs.Words.{front_place}
 use Rattle.fort_expr.proofs.Names.{named}
 use Rattle.fort_expr.proofs.Sound as within

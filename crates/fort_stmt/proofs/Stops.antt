@@ -1,5 +1,5 @@
 -- Where the parser of statements stops, and what it keeps.
-use Rattle.std.proofs.Common.{◌≡◌, ℕ, ◌+◌, ◌<◌, ◌≤◌, Bool, true, false, List, [], ◌∷◌, ◌++◌, take, drop, length, Option, None, Some, sym, ◌∙◌, ap, subst, append_assoc, arith}
+use Rattle.std.proofs.Common.{◌≡◌, ℕ, ◌+◌, ◌<◌, ◌≤◌, Bool, true, false, List, [], ◌∷◌, ◌++◌, take, drop, length, Some, sym, ◌∙◌, ap, subst, append_assoc, arith}
 use Rattle.std.specs.Bool.{Decides}
 use Rattle.std.specs.List.{slice_get}
 use Rattle.std.proofs.lemmas.Bool.{true≢false}
@@ -13,7 +13,6 @@ use Rattle.fort_grammar.specs.declared.engine.Step.TheVariants as step
 use Rattle.fort_grammar.specs.declared.table.Symbol.{Symbol}
 use Rattle.fort_grammar.specs.Choose.{member}
 use Rattle.fort_grammar.specs.First.{Good, firsts}
-use Rattle.fort_grammar.specs.Token.{token_class}
 use Rattle.fort_grammar.proofs.Productive.{derivable, token_of, class-sample}
 use Rattle.fort_grammar.proofs.Reach.{reachable}
 use Rattle.fort_grammar.proofs.Theory.{begins}

@@ -1,5 +1,5 @@
 -- Where the judgement stops, and what it keeps.
-use Rattle.std.proofs.Common.{◌≡◌, ℕ, ◌+◌, ◌<◌, ◌≤◌, Bool, true, false, List, [], ◌∷◌, ◌++◌, take, drop, length, Option, None, Some, refl, sym, ◌∙◌, ap, subst, append_assoc, below_more, arith}
+use Rattle.std.proofs.Common.{◌≡◌, ℕ, ◌+◌, ◌<◌, ◌≤◌, Bool, true, false, List, [], ◌∷◌, ◌++◌, take, drop, length, Option, None, Some, sym, ◌∙◌, ap, subst, append_assoc, below_more, arith}
 use Rattle.std.specs.Bool.{Decides}
 use Rattle.std.specs.List.{slice_get}
 use Rattle.std.proofs.lemmas.Bool.{true≢false}
@@ -15,7 +15,6 @@ use Rattle.fort_grammar.specs.declared.table.Symbol.{Symbol}
 use Rattle.fort_grammar.specs.Choose.{member}
 use Rattle.fort_grammar.specs.Engine as engine
 use Rattle.fort_grammar.specs.First.{Good, firsts}
-use Rattle.fort_grammar.specs.Token.{token_class}
 use Rattle.fort_grammar.proofs.Productive.{derivable, token_of, class-sample}
 use Rattle.fort_grammar.proofs.Reach.{reachable}
 use Rattle.fort_grammar.proofs.Theory.{begins}
@@ -25,7 +24,7 @@ use Rattle.fort_stmt.specs.declared.judging.Judgement.TheVariants as judgement
 use Rattle.fort_stmt.specs.declared.outline.Outline.{Outline}
 use Rattle.fort_stmt.specs.declared.outline.Outline.TheVariants as outline
 use Rattle.fort_stmt.specs.declared.sort.Sort.{Sort}
-use Rattle.fort_stmt.specs.Faults.{Begins, Run, NoStatement, CouldStand, OutsideAt, InsideAt, Inside, Extends, Judges}
+use Rattle.fort_stmt.specs.Faults.{Begins, Run, NoStatement, CouldStand, InsideAt, Inside, Extends, Judges}
 use Rattle.fort_stmt.specs.Form.{IsStatement}
 use Rattle.fort_stmt.specs.Machine.{start}
 use Rattle.fort_stmt.specs.Outline.{outline_of, sketch_on, pass, first_name, sort_with}

@@ -8,12 +8,10 @@ use Rattle.fort_tree.specs.declared.expr.Expr.{Expr}
 use Rattle.fort_tree.specs.declared.expr.Expr.TheVariants as expr
 use Rattle.fort_tree.specs.declared.expr.Sub as subscript
 use Rattle.fort_tree.specs.declared.expr.Unary.TheVariants.{Minus}
-use Rattle.fort_tree.specs.declared.place.Place.{Place}
 use Rattle.fort_tree.specs.declared.statement.EndWord.TheVariants as word
 use Rattle.fort_tree.specs.declared.statement.Statement.{Statement}
 use Rattle.fort_tree.specs.declared.statement.Statement.TheVariants as statement
 use Rattle.fort_tree.specs.declared.statement.Token.{Token}
-use Rattle.fort_tree.specs.declared.stmt.Head.{Head}
 use Rattle.fort_tree.specs.declared.stmt.Named.{Named}
 use Rattle.fort_tree.specs.declared.stmt.Range.{Range}
 use Rattle.fort_tree.specs.declared.stmt.Range.TheVariants as range

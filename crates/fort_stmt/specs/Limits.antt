@@ -1,5 +1,5 @@
 -- When a token of a statement is past a limit. The limits of tokens and of depth are this project's own.
-use Rattle.std.specs.Prelude.{◌≡◌, ◌⊎◌, ℕ, ◌+◌, ◌<◌, ◌≤◌, true, length, take, List, [], ◌∷◌, ◌++◌, Option, None, Some}
+use Rattle.std.specs.Prelude.{◌≡◌, ◌⊎◌, ℕ, zero, suc, ◌+◌, ◌<◌, ◌≤◌, true, length, take, List, [], ◌∷◌, ◌++◌, Option, None, Some}
 use Rattle.std.specs.List.{slice_get}
 use Rattle.fort_tree.specs.declared.choice.Mode.{Mode}
 use Rattle.fort_tree.specs.declared.expr.Expr.{Expr}
@@ -73,3 +73,13 @@ PastLimit mode tokens i = (token_limit mode ≤ i) ⊎ TooDeepAt mode tokens i
 abbrev pub FirstPastLimit : Mode → List Token → Option ℕ → Type 0
 FirstPastLimit mode tokens None = (i : ℕ) → i < length tokens → Begins (take (i + 1) tokens) → PastLimit mode tokens i → ⊥
 FirstPastLimit mode tokens (Some i) = (i < length tokens) × Begins (take (i + 1) tokens) × PastLimit mode tokens i × ((j : ℕ) → j < i → PastLimit mode tokens j → ⊥)
+
+-- the token so many times, and what stands behind it
+abbrev pub repeated : Token → ℕ → List Token → List Token
+repeated t zero w = w
+repeated t (suc n) w = t ∷ repeated t n w
+
+-- A number in so many parentheses as the limit of depth is too deep on a right side.
+abbrev pub ParenthesesCount : Type 0
+ParenthesesCount = (mode : Mode) (x e p t : Token) (n : ℕ) → token_class x ≡ class.Name → token_class e ≡ class.Equals → token_class p ≡ class.Open → token_class t ≡ class.Number → depth_limit mode ≤ n →
+    TooDeepAt mode (x ∷ e ∷ repeated p n (t ∷ [])) (n + 2)

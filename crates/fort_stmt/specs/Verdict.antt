@@ -6,7 +6,6 @@ use Rattle.fort_tree.specs.declared.fault.Code.TheVariants as code
 use Rattle.fort_tree.specs.declared.fault.Fault.{Fault}
 use Rattle.fort_tree.specs.declared.fault.Stop.{Stop}
 use Rattle.fort_tree.specs.declared.fault.Stop.TheVariants as stop
-use Rattle.fort_tree.specs.declared.place.Place.{Place}
 use Rattle.fort_tree.specs.declared.statement.Line.{Line}
 use Rattle.fort_tree.specs.declared.statement.Statement.{Statement}
 use Rattle.fort_tree.specs.declared.statement.Token.{Token}

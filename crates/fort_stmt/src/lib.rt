@@ -18,7 +18,7 @@ mod value;
 pub use building::built;
 pub use judging::{Judgement, judged};
 pub use laws::statements_are_derived;
-pub use limits::first_past_limit;
+pub use limits::{first_past_limit, parentheses_count};
 pub use parsing::Outcome;
 pub use reading::{sketch, statement};
 pub use sort::{ActionSort, Sort};

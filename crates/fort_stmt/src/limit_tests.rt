@@ -2,7 +2,7 @@
 ghost use Rattle.std.specs.Prelude.{IsTrue};
 ghost use Rattle.fort_tree.specs.Token.{is_token};
 
-use crate::first_past_limit;
+use crate::{first_past_limit, parentheses_count};
 use fort_tree::{Mode, Place, Seq, Token};
 use std::alloc::Global;
 use std::test::Fail;
@@ -205,4 +205,9 @@ fn many_arguments(rt: HostRuntime) -> Result<(), Fail> {
     let more = call(alloc, 9000)?;
     assert_eq!(rt; past(alloc, Mode::Target, &more), Some(16000));
     Ok(())
+}
+
+#[test]
+fn law_returns(rt: HostRuntime) {
+    parentheses_count();
 }

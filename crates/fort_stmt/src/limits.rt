@@ -2,7 +2,7 @@
 ghost use Rattle.std.specs.Prelude.{◌≡◌, option_map, IfOk};
 ghost use Rattle.fort_grammar.specs.Token.{token_class};
 ghost use Rattle.fort_stmt.specs.Cuts.{grown as grown_cut, above, above_action, cut_of, JudgesCut, JudgesAt};
-ghost use Rattle.fort_stmt.specs.Limits.{FirstPastLimit};
+ghost use Rattle.fort_stmt.specs.Limits.{FirstPastLimit, ParenthesesCount};
 
 use fort_expr::{Shape, depth_limit, is_leaf, is_too_deep, shape_of, token_limit};
 use fort_grammar::{Action, Build, Part, Stack, Step, Symbol, advance, class_of};
@@ -167,3 +167,8 @@ pub fn first_past_limit(
     }
     Ok(None)
 }
+
+/// A law of the definition of the limits: each pair of parentheses counts. The function does nothing.
+pub fn parentheses_count()
+    ensures { ParenthesesCount }
+{}

@@ -1,8 +1,4 @@
-use Rattle.std.proofs.Common.{◌≡◌, List, None, sym, subst}
-use Rattle.fort_tree.specs.declared.statement.Token.{Token}
-use Rattle.fort_stmt.specs.declared.judging.Judgement.{Judgement}
 use Rattle.fort_stmt.specs.declared.judging.Judgement.TheVariants as judgement
-use Rattle.fort_stmt.specs.Faults.{Judges}
 use Rattle.fort_stmt.proofs.Firsts.{judges-at, not-outside, none-of}
 use Rattle.fort_stmt.proofs.reading.sketch.Goals as goal
 
