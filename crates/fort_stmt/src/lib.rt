@@ -27,4 +27,6 @@ pub use value::{Draft, Entity};
 #[cfg(test)]
 mod limit_tests;
 #[cfg(test)]
+mod reading_tests;
+#[cfg(test)]
 mod tests;
