@@ -9,7 +9,7 @@ mod laws;
 mod parsing;
 mod value;
 
-pub use building::built;
+pub use building::{built, parse};
 pub use laws::statements_are_derived;
 pub use parsing::Outcome;
 pub use value::{Draft, Entity};
