@@ -1,5 +1,5 @@
 -- What actions build of the parts of a statement.
-use Rattle.std.specs.Prelude.{List, [], ◌∷◌, ◌++◌, map, Option, None, Some}
+use Rattle.std.specs.Prelude.{ℕ, List, [], ◌∷◌, ◌++◌, map, Option, None, Some}
 use Rattle.fort_arith.specs.declared.kind.Kind.{Kind}
 use Rattle.fort_arith.specs.declared.kind.Kind.TheVariants as kinds
 use Rattle.fort_arith.specs.declared.op.Op.TheVariants as op
@@ -23,6 +23,8 @@ use Rattle.fort_expr.specs.declared.value.Value.{Value}
 use Rattle.fort_expr.specs.declared.value.Value.TheVariants as value
 use Rattle.fort_expr.specs.declared.value.Word.{Word}
 use Rattle.fort_expr.specs.Values.{rest, word, operand, operand_place, bound, subscripts, name, word_place, reference, shift, apply}
+use Rattle.fort_stmt.specs.declared.parsing.Outcome.{Outcome}
+use Rattle.fort_stmt.specs.declared.parsing.Outcome.TheVariants as outcomes
 use Rattle.fort_stmt.specs.declared.value.Draft.{Draft}
 use Rattle.fort_stmt.specs.declared.value.Entity.{Entity}
 use Rattle.fort_stmt.specs.Form.{declared, kind_by_text}
@@ -255,3 +257,8 @@ blank = record {
   entities = [];
   ranges = [];
 }
+
+-- what a reader gives: the draft's statement, or how many tokens can begin one
+abbrev pub outcome : Option ℕ → Draft → Outcome
+outcome None p = outcomes.Form p.statement
+outcome (Some n) p = outcomes.Syntax n

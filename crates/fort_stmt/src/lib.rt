@@ -15,7 +15,7 @@ mod reading;
 mod sort;
 mod value;
 
-pub use building::built;
+pub use building::{built, parse};
 pub use judging::{Judgement, judged};
 pub use laws::statements_are_derived;
 pub use limits::{first_past_limit, parentheses_count};
@@ -26,7 +26,5 @@ pub use value::{Draft, Entity};
 
 #[cfg(test)]
 mod limit_tests;
-#[cfg(test)]
-mod reading_tests;
 #[cfg(test)]
 mod tests;

@@ -67,4 +67,11 @@ impl Draft {
             ranges: Seq::new(alloc),
         }
     }
+
+    /// The statement that was built last.
+    pub fn into_statement(self) -> Statement
+        ensures { result ≡ self.statement }
+    {
+        self.statement
+    }
 }

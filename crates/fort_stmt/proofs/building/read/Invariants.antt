@@ -1,5 +1,5 @@
 use Rattle.fort_stmt.proofs.Stops.{Kept}
 use Rattle.fort_stmt.proofs.building.read.Given as goal
 
-abbrev pub invariant-loop-token : goal.invariant-loop-token
-invariant-loop-token l = Kept l.tokens l.token-index l.stack l.draft
+abbrev pub invariant-loop-i : goal.invariant-loop-i
+invariant-loop-i l = Kept l.tokens l.i l.stack l.draft
