@@ -1,0 +1,11 @@
+use Rattle.std.proofs.Common.{List, [], map, subst, sym}
+use Rattle.fort_tree.specs.declared.choice.Mode.TheVariants.{Source}
+use Rattle.fort_tree.specs.declared.unit.File.{File}
+use Rattle.sound_programs.specs.Nesting.{Nests, no_more}
+use Rattle.form_nesting.specs.declared.form.Form.{Form}
+use Rattle.form_nesting.specs.Forms.{form_of}
+use Rattle.form_nesting.proofs.tests.nothing.Goals as goal
+
+pub nested-requires-clause-nest : goal.nested-requires-clause-nest
+nested-requires-clause-nest g c =
+    subst (λ (forms : List Form). (file : File) × Nests Source (map form_of forms) file) (sym c.new.ensures) (record { modules = []; units = []; order = [] }, no_more)
