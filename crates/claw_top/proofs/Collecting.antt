@@ -1,22 +1,30 @@
 -- The lines of the sources, source after source.
-use Rattle.std.proofs.Common.{◌≡◌, ℕ, suc, ◌+◌, ◌<◌, ◌≤◌, List, [], ◌∷◌, ◌++◌, Vec, length, take, drop, get_or, refl, ap, sym, ◌∙◌, subst, append_assoc, add-one, arith}
+use Rattle.std.proofs.Common.{◌≡◌, ℕ, suc, ◌+◌, ◌<◌, ◌≤◌, List, [], ◌∷◌, ◌++◌, map, Option, None, Some, Vec, length, take, drop, get_or, refl, ap, sym, ◌∙◌, subst, append_assoc, add-one, arith}
 use Rattle.std.specs.declared.alloc.Global.{Global}
-use Rattle.std.proofs.lemmas.List.{append-nil, map-append, length-map, length-take-le}
+use Rattle.std.proofs.lemmas.List.{append-nil, map-append, length-map, length-append, length-take-le}
+use Rattle.std.specs.Prelude.{IfSome}
+use Rattle.std.specs.List.{All}
+use Rattle.std.proofs.lemmas.List.Elements.{All-weaker, All-append}
 use Rattle.std.proofs.lemmas.List.Sums.{sum_by-append, sum_by-cons}
 use Rattle.std.proofs.Math.Seq.{split_at, take-suc}
 use Rattle.fort_tree.specs.declared.choice.Mode.TheVariants.{Source}
 use Rattle.fort_tree.specs.declared.fault.Fault.{Fault}
 use Rattle.fort_tree.specs.declared.fault.Stop.{Stop}
 use Rattle.fort_tree.specs.declared.fault.Stop.TheVariants.{Fault as Fails, NoMemory}
+use Rattle.fort_tree.specs.declared.place.Place.{Place}
 use Rattle.fort_tree.specs.declared.statement.Line.{Line}
-use Rattle.fort_lex.specs.Lines.{IsFirstTextFault}
+use Rattle.fort_tree.specs.declared.statement.Token.{Token}
+use Rattle.fort_lex.specs.Lines.{IsFirstTextFault, written}
 use Rattle.claw_top.specs.Limits.{total_length}
 use Rattle.claw_top.specs.Outcome.{bytes_of}
-use Rattle.claw_top.proofs.InFiles.{Each, lines-in, first-fault-in}
+use Rattle.fort_lex.specs.Places.{InFile, StandsIn}
+use Rattle.fort_lex.proofs.LinePlaces.{lines-in-file, first-in-file}
+use Rattle.fort_lex.proofs.Few.{few-lines}
+use Rattle.fort_units.specs.Places.{InFiles, LineInFiles}
 use Rattle.claw_top.specs.Sources.{HasLines, HaveLinesFrom, HaveLines, HasTextFault, HaveTextStop, AreBefore}
 
 abbrev AreIn : ℕ → List Line → Type 0
-AreIn file lines = Each (λ line. line.at.file ≡ file) lines
+AreIn file lines = All (StandsIn file) lines
 
 -- one source more
 one-more : (file : ℕ) (texts : List (List ℕ)) (text : List ℕ) (lines added : List Line) → HaveLinesFrom file texts lines → HasLines (file + length texts) text added →
@@ -28,18 +36,43 @@ one-more file (t ∷ texts) text lines added h new =
     let same : file + length (t ∷ texts) ≡ file + 1 + length texts = omega arith in
     (h.0, h.1 ++ added, ap (λ x. x ++ added) h.2 ∙ append_assoc h.0 h.1 added, h.3, one-more (file + 1) texts text h.1 added h.4 (subst (λ k. HasLines k text added) same new))
 
-later : (file count : ℕ) (added : List Line) → file < count → AreIn file added → AreBefore count added
-later file count [] below h = tt
-later file count (line ∷ added) below h = (subst (λ k. k < count) (sym h.0) below, later file count added below h.1)
+-- ---- places
+
+later-place : (file count : ℕ) (at : Place) → file < count → InFile file at → InFiles count at
+later-place file count at below h = subst (λ k. k < count) (sym h) below
+
+later-mark : (file count : ℕ) (mark : Option Place) → file < count → IfSome mark (InFile file) → IfSome mark (InFiles count)
+later-mark file count None below h = tt
+later-mark file count (Some at) below h = later-place file count at below h
+
+later-line : (file count : ℕ) → file < count → (line : Line) → StandsIn file line → LineInFiles count line
+later-line file count below line h = record {
+  at = later-place file count line.at below h.at;
+  tokens = All-weaker (λ (t : Token). InFile file t.at) (λ (t : Token). InFiles count t.at) (λ t k. later-place file count t.at below k) line.tokens h.tokens;
+  unfinished = later-mark file count line.unfinished below h.unfinished;
+}
+
+more-mark : (count : ℕ) (mark : Option Place) → IfSome mark (InFiles count) → IfSome mark (InFiles (count + 1))
+more-mark count None h = tt
+more-mark count (Some at) h = omega (arith, h)
+
+more-line : (count : ℕ) (line : Line) → LineInFiles count line → LineInFiles (count + 1) line
+more-line count line h =
+    let at = h.at in
+    record {
+      at = omega (arith, at);
+      tokens = All-weaker (λ (t : Token). InFiles count t.at) (λ (t : Token). InFiles (count + 1) t.at) (λ t k. omega (arith, k)) line.tokens h.tokens;
+      unfinished = more-mark count line.unfinished h.unfinished;
+    }
 
 more-before : (file : ℕ) (lines added : List Line) → AreBefore file lines → AreIn file added → AreBefore (file + 1) (lines ++ added)
-more-before file [] added before h = later file (file + 1) added (omega arith) h
-more-before file (line ∷ lines) added before h =
-    let below : line.at.file < file + 1 = let b = before.0 in omega (arith, b) in (below, more-before file lines added before.1 h)
+more-before file lines added before h =
+    All-append (LineInFiles (file + 1)) lines added (All-weaker (LineInFiles file) (LineInFiles (file + 1)) (more-line file) lines before)
+    (All-weaker (StandsIn file) (LineInFiles (file + 1)) (later-line file (file + 1) (omega arith)) added h)
 
 pub next-before : (i file : ℕ) (source : List ℕ) (lines added : List Line) → file ≡ i → AreBefore i lines → HasLines file source added → AreBefore (i + 1) (lines ++ added)
 next-before i file source lines added number before new =
-    more-before i lines added before (subst (λ k. AreIn k added) number (lines-in file Source source added new))
+    more-before i lines added before (subst (λ k. AreIn k added) number (lines-in-file file Source source added [] new))
 
 -- ---- the source of a number
 
@@ -77,7 +110,7 @@ pub stops : (sources : Sources) (i file : ℕ) (source : Vec ℕ Global) (lines 
 stops sources i file source lines (Fails fault) within is number before h =
     let long : length (bytes_of sources) ≡ length sources = length-map sources (λ s. s.items) in
     let first : IsFirstTextFault file Source source.items fault = h fault refl in
-    let here : fault.place.file ≡ i = first-fault-in file Source source.items fault first ∙ number in (
+    let here : fault.place.file ≡ i = first-in-file file Source source.items fault first ∙ number in (
       record {
         before = bytes_of (take i sources);
         source = source.items;
@@ -98,3 +131,17 @@ one-length sources i source within is =
   where
     part : (front : List (List ℕ)) (text : List ℕ) (back : List (List ℕ)) → length text ≤ total_length (front ++ text ∷ back)
     part front text back = let e = sum_by-append length front (text ∷ back) in let f = sum_by-cons length text back in omega (arith, e, f)
+
+-- ---- the number of lines
+
+-- of each source at most one more than bytes
+pub next-few : (sources : Sources) (i file : ℕ) (source : Vec ℕ Global) (lines added : List Line) → i < length sources → source ≡ get_or sources i source →
+    length lines ≤ total_length (bytes_of (take i sources)) + i → HasLines file source.items added → length (lines ++ added) ≤ total_length (bytes_of (take (i + 1) sources)) + (i + 1)
+next-few sources i file source lines added within is before new =
+    let few : length added ≤ length source.items + 1 = subst (λ k. k ≤ length source.items + 1) (length-map added written) (few-lines file Source source.items (map written added) [] new) in
+    let both : length (lines ++ added) ≡ length lines + length added = length-append lines added in
+    let more : total_length (bytes_of (take (i + 1) sources)) ≡ total_length (bytes_of (take i sources)) + total_length (source.items ∷ []) =
+    ap total_length (taken sources i source within is) ∙ sum_by-append length (bytes_of (take i sources)) (source.items ∷ []) in
+    let one : total_length (source.items ∷ []) ≡ length source.items + total_length [] = sum_by-cons length source.items [] in
+    let none : total_length [] ≡ 0 = refl in
+    omega (arith, few, both, more, one, none, before)

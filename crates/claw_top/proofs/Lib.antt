@@ -1,6 +1,7 @@
-mod InFiles
 mod Collecting
 mod Loads
 mod Ends
 mod Refusing
+mod OneUnit
 mod Translating
+mod Counts

@@ -1,28 +1,87 @@
 -- A refusal stands in one of the files.
-use Rattle.std.proofs.Common.{ℕ, ◌<◌, List, [], ◌∷◌, ◌++◌}
-use Rattle.std.specs.Prelude.{⊤}
+use Rattle.std.proofs.Common.{◌≡◌, ℕ, ◌<◌, Bool, true, false, cond, List, [], ◌∷◌, ◌++◌, map, refl, ap, ◌∙◌, subst, Contains, Ok, Err, IfOk, IfErr}
+use Rattle.std.specs.List.{All}
+use Rattle.std.proofs.lemmas.List.Elements.{All-head, All-tail}
+use Rattle.fort_tree.specs.declared.choice.Mode.{Mode}
+use Rattle.std.specs.declared.result.Result.{Result}
+use Rattle.fort_tree.specs.declared.fault.Fault.{Fault}
+use Rattle.fort_tree.specs.declared.fault.Stop.{Stop}
+use Rattle.fort_tree.specs.declared.fault.Stop.TheVariants.{Fault as Fails, NoMemory}
 use Rattle.fort_tree.specs.declared.place.Place.{Place}
 use Rattle.fort_tree.specs.declared.statement.Line.{Line}
-use Rattle.scalar_reader.specs.declared.reader.Reading.{Reading}
-use Rattle.scalar_reader.specs.declared.reader.Reading.TheVariants.{Empty, Unit as TheUnit, Refused}
-use Rattle.scalar_reader.specs.Reading.{IsReadingOf, IsReading, file_of, empty, unit, broken, short, unsound}
-use Rattle.claw_top.specs.Sources.{AreBefore}
+use Rattle.fort_tree.specs.declared.unit.File.{File}
+use Rattle.fort_tree.specs.declared.unit.Item.{Item as TopItem}
+use Rattle.fort_tree.specs.declared.unit.Module.{Module}
+use Rattle.fort_tree.specs.declared.unit.Unit as tree
+use Rattle.sound_programs.specs.Forms.{Form}
+use Rattle.sound_programs.specs.Nesting.{Nests_from, no_more, module_first, unit_first, a_module, subroutine, function}
+use Rattle.column_scalars.proofs.MemberCases.{contains_none}
+use Rattle.fort_units.specs.declared.item.Item.{Item}
+use Rattle.fort_units.specs.Program.{HasLines, no_line, a_line, mode_of, IsProgram, Answers}
+use Rattle.fort_units.specs.Places.{LineInFiles}
+use Rattle.scalar_units.specs.Unbuilt.{is_earlier, of_units, unbuilt, IsFirst}
+use Rattle.fort_units.proofs.LinePlaces.{first_fault_in_files}
+use Rattle.claw_top.specs.Sources.{AreBefore, HaveSyntaxStop, begins_after, begins_at}
 
-abbrev Within : ℕ → Reading → Type 0
-Within count Empty = ⊤
-Within count (TheUnit u) = ⊤
-Within count (Refused place) = place.file < count
+begun-within : (count : ℕ) (at begin : Place) (lines : List Line) → begin.file < count → AreBefore count lines → (begins_after at begin lines).file < count
+begun-within count at begin [] here before = here
+begun-within count at begin (line ∷ lines) here before =
+    go (is_earlier at line.at)
+    (begun-within count at line.at lines (All-head (LineInFiles count) line lines before).at (All-tail (LineInFiles count) line lines before))
+  where
+    go : (b : Bool) → (begins_after at line.at lines).file < count → (cond b begin (begins_after at line.at lines)).file < count
+    go true next = here
+    go false next = next
 
-line-before : (count : ℕ) (before : List Line) (line : Line) (behind : List Line) → AreBefore count (before ++ line ∷ behind) → line.at.file < count
-line-before count [] line behind h = h.0
-line-before count (first ∷ before) line behind h = line-before count before line behind h.1
+-- where there are lines, one of them begins at the place
+begins-within : (count : ℕ) (at : Place) (line : Line) (lines : List Line) → AreBefore count (line ∷ lines) → (begins_at at (line ∷ lines)).file < count
+begins-within count at line lines before =
+    begun-within count at line.at lines (All-head (LineInFiles count) line lines before).at (All-tail (LineInFiles count) line lines before)
 
-within : (count file : ℕ) (lines : List Line) (reading : Reading) → IsReadingOf file lines reading → AreBefore count lines → Within count reading
-within count file lines reading empty h = tt
-within count file lines reading (unit ls p are sound) h = tt
-within count file lines reading (broken before line behind begins breaks) h = line-before count before line behind h
-within count file lines reading (short before line begins whole) h = line-before count before line [] h
-within count file lines reading (unsound line behind p are sound) h = h.0
+-- ---- no lines
 
-pub refused-within : (count : ℕ) (lines : List Line) (place : Place) → IsReading lines (Refused place) → AreBefore count lines → place.file < count
-refused-within count lines place is h = within count (file_of lines) lines (Refused place) is h
+no_forms : (lines : List Line) (items : List Item) (own : List Fault) (forms : List Form) → lines ≡ [] → HasLines lines items own forms → forms ≡ []
+no_forms lines items own forms e no_line = refl
+no_forms lines items own forms e (a_line one more) = absurd (no_items _ _ e)
+  where
+    no_items : {A : Type 0} (x : A) (xs : List A) → x ∷ xs ≡ [] → ⊥
+    no_items x xs h = cc
+
+-- no form nests into anything
+nothing_nests : (mode : Mode) (forms : List Form) (ms : List Module) (us : List tree.Unit) (order : List TopItem) → forms ≡ [] → Nests_from mode 0 0 forms ms us order →
+    (ms ≡ []) × (us ≡ [])
+nothing_nests mode forms ms us order e no_more = (refl, refl)
+nothing_nests mode forms ms us order e (module_first (a_module head inside ends) h) = absurd (no_form _ _ e)
+  where
+    no_form : (f : Form) (fs : List Form) → f ∷ fs ≡ [] → ⊥
+    no_form f fs h = cc
+nothing_nests mode forms ms us order e (unit_first (subroutine head paired body ends) h) = absurd (no_form _ _ e)
+  where
+    no_form : (f : Form) (fs : List Form) → f ∷ fs ≡ [] → ⊥
+    no_form f fs h = cc
+nothing_nests mode forms ms us order e (unit_first (function head body ends) h) = absurd (no_form _ _ e)
+  where
+    no_form : (f : Form) (fs : List Form) → f ∷ fs ≡ [] → ⊥
+    no_form f fs h = cc
+
+empty_built : (file : File) → IsProgram [] file → unbuilt file ≡ []
+empty_built file h =
+    let forms = no_forms [] h.judged.items h.judged.own h.judged.forms refl h.judged.are in
+    let parts = nothing_nests (mode_of []) h.judged.forms file.modules file.units file.order forms h.nests in
+    ap (λ (ms : List Module). map (λ m. m.at) ms ++ of_units file.units) parts.0 ∙ ap of_units parts.1
+
+-- what is not yet built stands in one of the files
+pub unbuilt-within : (count : ℕ) (lines : List Line) (file : File) (at : Place) → AreBefore count lines → IsProgram lines file → IsFirst at (unbuilt file) → (begins_at at lines).file < count
+unbuilt-within count [] file at before h first = absurd (contains_none at (subst (λ (l : List Place). Contains l at) (empty_built file h) first.is_one))
+unbuilt-within count (line ∷ lines) file at before h first = begins-within count at line lines before
+
+-- ---- the answer of the reader
+
+pub spelled-by : (lines : List Line) (r : Result File Stop) → Answers lines r → IfOk r (IsProgram lines)
+spelled-by lines (Ok file) h = h
+spelled-by lines (Err stop) h = tt
+
+pub stops-by : (count : ℕ) (lines : List Line) (r : Result File Stop) → AreBefore count lines → Answers lines r → IfErr r (HaveSyntaxStop count lines)
+stops-by count lines (Ok file) before h = tt
+stops-by count lines (Err (Fails fault)) before h = (h, first_fault_in_files count lines fault before h)
+stops-by count lines (Err NoMemory) before h = tt

@@ -1,9 +1,10 @@
 -- What is made of a source is a translation of it.
-use Rattle.std.proofs.Common.{◌≡◌, ℕ, refl, sym, ap, ◌∙◌, subst, List, Some, None, Bool, false}
+use Rattle.std.proofs.Common.{◌≡◌, ℕ, refl, sym, ap, ◌∙◌, subst, List, [], ◌∷◌, Some, None, Bool, false, ◌⊎◌, inl, inr, length, arith}
 use Rattle.std.specs.Prelude.{is_some}
 use Rattle.std.proofs.lemmas.Bool.{false≢true}
 use Rattle.fort_tree.specs.declared.choice.Target.TheVariants.{Cpu}
 use Rattle.fort_tree.specs.declared.choice.Directives.TheVariants.{Plain}
+use Rattle.fort_tree.specs.declared.unit.File.{File}
 use Rattle.fort_tree.specs.declared.unit.Unit.{Unit as TreeUnit}
 use Rattle.claw_meaning.specs.Syntax.{Text, Unit, Program}
 use Rattle.claw_meaning.specs.Plain.{plain_unit}
@@ -24,23 +25,25 @@ use Rattle.column_scalars.proofs.Erasing.{erased_to_source}
 use Rattle.column_scalars.proofs.Spreading.{statements_spread}
 use Rattle.fort_spell.specs.Units.{layout_of}
 use Rattle.fort_tree.specs.declared.statement.Line.{Line}
-use Rattle.scalar_reader.specs.declared.reader.Reading.TheVariants.{Empty, Unit as TheUnit}
-use Rattle.scalar_reader.specs.Reading.{IsReading}
-use Rattle.scalar_reader.specs.ScalarsUnit.{IsScalarsUnit}
-use Rattle.scalar_reader.proofs.ScalarsUnits.{read_scalars}
+use Rattle.column_scalars.specs.Widened.{HasDimension}
+use Rattle.fort_units.specs.Program.{IsProgram, mode_of}
+use Rattle.scalar_units.specs.Scalars.{IsScalarsUnit, OneUnit}
+use Rattle.scalar_units.specs.Unbuilt.{unbuilt}
+use Rattle.scalar_units.proofs.Built.{built_is}
 use Rattle.claw_top.specs.Sources.{HaveLines}
-use Rattle.claw_top.specs.Translation.{nothing, unit, no_unit, one_unit, Translation}
+use Rattle.claw_top.proofs.OneUnit.{is_no_unit, is_one_unit}
+use Rattle.claw_top.specs.Translation.{AreSpelled, no_unit, one_unit, Translation}
 
 -- a program without units has no unit of any number
 no_such : {u : Unit} → None ≡ Some u → ⊥
 no_such e = absurd (false≢true (ap is_some e))
 
-pub empty_translation : (sources : List (List ℕ)) (lines : List Line) → HaveLines sources lines → IsReading lines Empty → Translation sources (layout_of no_unit)
-empty_translation sources lines are is = record {
+pub empty_translation : (sources : List (List ℕ)) (file : File) → AreSpelled sources file → file ≡ no_unit → Translation sources (layout_of no_unit)
+empty_translation sources file spelled is = record {
   directed = no_unit;
   written = no_unit;
   wide = λ i x. false;
-  spelled = nothing lines are is;
+  spelled = subst (AreSpelled sources) is spelled;
   layout = refl;
   interface = record { modules = refl; order = refl; count = refl; varying = λ i u e h. absurd (no_such e); units = λ i u t e f. absurd (no_such e) };
   erased = record { modules = refl; order = refl; units = λ i u t e f. absurd (no_such e); count = refl };
@@ -52,10 +55,9 @@ empty_translation sources lines are is = record {
 carried : (P : Program → Program → Type 0) (u v w t : Unit) → u ≡ v → w ≡ t → P (program_of v) (program_of t) → P (program_of u) (program_of w)
 carried P u v w t e f h = subst (λ x. P (program_of x) (program_of w)) (sym e) (subst (λ x. P (program_of v) (program_of x)) (sym f) h)
 
-pub unit_translation : (sources : List (List ℕ)) (lines : List Line) (u w : TreeUnit) → HaveLines sources lines → IsReading lines (TheUnit u) →
+pub unit_translation : (sources : List (List ℕ)) (file : File) (u w : TreeUnit) → AreSpelled sources file → file ≡ one_unit u → IsScalarsUnit u →
     plain_unit w ≡ widened (plain_unit u) → Translation sources (layout_of (one_unit w))
-unit_translation sources lines u w are is made =
-    let read : IsScalarsUnit u = read_scalars lines u is in
+unit_translation sources file u w spelled is read made =
     let s : Scalars = read.scalars in
     let wide : plain_unit w ≡ wide_unit s = made ∙ (ap widened read.plain ∙ widened_is s) in
     let names : ℕ → Text → Bool = λ i x. is_listed s.dummies x in
@@ -63,10 +65,53 @@ unit_translation sources lines u w are is made =
       directed = one_unit u;
       written = one_unit w;
       wide = names;
-      spelled = unit lines u are is;
+      spelled = subst (AreSpelled sources) is spelled;
       layout = refl;
       interface = carried (λ p q. Interface p q names) (plain_unit u) (source_unit s) (plain_unit w) (wide_unit s) read.plain wide (interface_kept s read.is);
       erased = carried (λ p q. Erased p q names) (plain_unit u) (source_unit s) (plain_unit w) (wide_unit s) read.plain wide (erased_to_source s read.is);
       spread = carried (λ p q. Spread p q names (λ i x. false) Cpu Plain) (plain_unit u) (source_unit s) (plain_unit w) (wide_unit s) read.plain wide (statements_spread s read.is);
       kept = λ plan. carried (λ p q. Kept p q plan) (plain_unit u) (source_unit s) (plain_unit w) (wide_unit s) read.plain wide (keeps_columns_from s read.is (source_does s read.is) (wide_does s read.is) (are_columnwise s read.is) plan);
     }
+
+-- ---- a program of which nothing is unbuilt
+
+abbrev head_or : TreeUnit → List TreeUnit → TreeUnit
+head_or v [] = v
+head_or v (u ∷ us) = u
+
+-- the one unit
+record IsOne (file : File) (u : TreeUnit) : Type 0 where
+  alone : file.units ≡ u ∷ []
+  scalars : IsScalarsUnit u
+  dimension : HasDimension u
+
+one_of : (file : File) (u : TreeUnit) (others : List TreeUnit) → unbuilt file ≡ [] → file.units ≡ u ∷ others → IsOne file u
+one_of file u others built units = go (built_is file built).1
+  where
+    go : (file.units ≡ []) ⊎ ((v : TreeUnit) × OneUnit file v × IsScalarsUnit v × HasDimension v) → IsOne file u
+    go (inl none) = absurd (no_unit_there (sym units ∙ none))
+      where
+        no_unit_there : u ∷ others ≡ [] → ⊥
+        no_unit_there e = cc
+    go (inr (v, alone, scalars, dimension)) =
+        let same : v ≡ u = ap (head_or v) (sym alone ∙ units) in
+        record { alone = subst (λ x. file.units ≡ x ∷ []) same alone; scalars = subst IsScalarsUnit same scalars; dimension = subst HasDimension same dimension }
+
+pub dimension_of : (file : File) (u : TreeUnit) (others : List TreeUnit) → unbuilt file ≡ [] → file.units ≡ u ∷ others → HasDimension u
+dimension_of file u others built units = (one_of file u others built units).dimension
+
+pub made_of_none : (sources : List (List ℕ)) (lines : List Line) (file : File) → HaveLines sources lines → IsProgram lines file → unbuilt file ≡ [] → file.units ≡ [] →
+    Translation sources (layout_of no_unit)
+made_of_none sources lines file are spelled built none =
+    empty_translation sources file (record { lines = lines; are = are; spelled = spelled }) (is_no_unit (mode_of lines) spelled.judged.forms file spelled.nests (built_is file built).0 none)
+
+pub made_of_one : (sources : List (List ℕ)) (lines : List Line) (file : File) (u w : TreeUnit) (others : List TreeUnit) → HaveLines sources lines → IsProgram lines file → unbuilt file ≡ [] →
+    file.units ≡ u ∷ others → plain_unit w ≡ widened (plain_unit u) → Translation sources (layout_of (one_unit w))
+made_of_one sources lines file u w others are spelled built units made =
+    let one = one_of file u others built units in
+    unit_translation sources file u w (record { lines = lines; are = are; spelled = spelled })
+    (is_one_unit (mode_of lines) spelled.judged.forms file u spelled.nests (built_is file built).0 one.alone) one.scalars made
+
+pub no_items : (us : List TreeUnit) → length us ≡ 0 → us ≡ []
+no_items [] e = refl
+no_items (u ∷ us) e = absurd (omega (arith, e))

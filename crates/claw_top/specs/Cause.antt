@@ -4,11 +4,12 @@ use Rattle.std.specs.declared.option.Option.{Option}
 use Rattle.outside.specs.Counts.{Rose, RoseBy}
 use Rattle.outside.specs.Files.{Files, file_at, Lacks}
 use Rattle.fort_spell.specs.Units.{layout_of}
+use Rattle.claw_words.specs.declared.reading.Command.{Command}
 use Rattle.claw_top.specs.Limits.{most_files, most_bytes, total_length}
 use Rattle.claw_top.specs.Compile.{Compiles}
 use Rattle.claw_top.specs.Outcome.{listed_of}
 use Rattle.claw_top.specs.declared.end.End.{End}
-use Rattle.claw_top.specs.declared.end.End.TheVariants.{Program, Fault, Usage, CannotRead, TooLong, NoMemory}
+use Rattle.claw_top.specs.declared.end.End.TheVariants.{Program, Counts, Fault, Usage, CannotRead, TooLong, NoMemory}
 
 -- These are the bytes of the named files, one after another, where the files are told.
 abbrev pub AreTold : Option Files → List (List ℕ) → List (List ℕ) → Type 0
@@ -42,15 +43,17 @@ IsTooMuch None read_before read_now name sources = RoseBy (most_bytes + 1) read_
 IsTooMuch (Some files) read_before read_now name sources = Exceeds files name sources
 
 -- An end has its cause.
-abbrev pub HasCause : Option Files → ℕ → ℕ → ℕ → ℕ → List (List ℕ) → End → Type 0
-HasCause files before now read_before read_now names (Program file) =
-    (sources : List (List ℕ)) × WereRead files read_before read_now names sources × Compiles sources (Ok (layout_of file))
-HasCause files before now read_before read_now names (Fault fault listed) =
-    (sources : List (List ℕ)) × WereRead files read_before read_now names sources × Compiles sources (Err fault)
+abbrev pub HasCause : Command → Option Files → ℕ → ℕ → ℕ → ℕ → List (List ℕ) → End → Type 0
+HasCause command files before now read_before read_now names (Program file) =
+    (sources : List (List ℕ)) × WereRead files read_before read_now names sources × Compiles command sources (Ok (layout_of file))
+HasCause command files before now read_before read_now names (Counts text) =
+    (sources : List (List ℕ)) × WereRead files read_before read_now names sources × Compiles command sources (Ok text.items)
+HasCause command files before now read_before read_now names (Fault fault listed) =
+    (sources : List (List ℕ)) × WereRead files read_before read_now names sources × Compiles command sources (Err fault)
     × (fault.place.file < length names) × (listed ≡ listed_of names)
-HasCause files before now read_before read_now names Usage = ⊥
-HasCause files before now read_before read_now names (CannotRead file) =
+HasCause command files before now read_before read_now names Usage = ⊥
+HasCause command files before now read_before read_now names (CannotRead file) =
     (sources : List (List ℕ)) × Reaches files names file.now sources × (Rose before now ⊎ Lacks files file.now)
-HasCause files before now read_before read_now names TooLong = (most_files < length names)
+HasCause command files before now read_before read_now names TooLong = (most_files < length names)
     ⊎ ((name : List ℕ) × (sources : List (List ℕ)) × Reaches files names name sources × IsTooMuch files read_before read_now name sources)
-HasCause files before now read_before read_now names NoMemory = ⊤
+HasCause command files before now read_before read_now names NoMemory = ⊤

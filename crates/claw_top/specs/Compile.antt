@@ -1,28 +1,77 @@
--- What is made of the sources: a text that is a translation of them, or their first fault.
-use Rattle.std.specs.Prelude.{◌≡◌, ◌⊎◌, ℕ, List, Ok, Err, None}
+-- What is made of the sources: a text that is a translation of them, or how many units they have; or their first fault.
+use Rattle.std.specs.Prelude.{◌≡◌, ◌⊎◌, ℕ, Bool, ◌++◌, List, Ok, Err, None, length, count_by, decimal, codes}
+use Rattle.std.specs.List.{list_any}
 use Rattle.std.specs.declared.result.Result.{Result}
 use Rattle.fort_tree.specs.declared.fault.Code.TheVariants.{E20}
 use Rattle.fort_tree.specs.declared.fault.Fault.{Fault}
 use Rattle.fort_tree.specs.declared.place.Place.{Place}
 use Rattle.fort_tree.specs.declared.statement.Line.{Line}
-use Rattle.scalar_reader.specs.Reading.{IsReading}
-use Rattle.scalar_reader.specs.declared.reader.Reading.TheVariants.{Refused}
-use Rattle.claw_top.specs.Sources.{HaveLines, HaveTextFault}
+use Rattle.fort_tree.specs.declared.stmt.Directive.{Directive}
+use Rattle.fort_tree.specs.declared.stmt.DirectiveWord.{DirectiveWord}
+use Rattle.fort_tree.specs.declared.unit.File.{File}
+use Rattle.fort_tree.specs.declared.unit.Unit.{Unit as TreeUnit}
+use Rattle.claw_meaning.specs.Plain.{plain_unit}
+use Rattle.claw_meaning.specs.Units.{is_column_unit}
+use Rattle.fort_units.specs.Program.{IsProgram, HasFirst}
+use Rattle.scalar_units.specs.Unbuilt.{IsFirst, unbuilt}
+use Rattle.claw_words.specs.declared.reading.Command.{Command}
+use Rattle.claw_words.specs.declared.reading.Command.TheVariants.{Translate, Check}
+use Rattle.claw_top.specs.Sources.{HaveLines, HaveTextFault, begins_at}
 use Rattle.claw_top.specs.Translation.{Translation}
 
 -- what stands at the place is not in the profile, since it is not yet built
 abbrev pub not_built : Place → Fault
 not_built place = record { code = E20; place = place; item = 13; first = None; second = None }
 
--- no source has a text fault, and their lines are refused at the fault's place
+-- no source has a text fault, and this is the first fault of syntax of their lines
+pub record HaveSyntaxFault (sources : List (List ℕ)) (fault : Fault) : Type 0 where
+  pub lines : List Line
+  pub are : HaveLines sources lines
+  pub first : HasFirst lines fault
+
+-- The sources spell a program which is not one unit of column scalars. The fault stands at the first token of the line
+-- that has the first place which keeps it from being one.
 pub record IsNotBuilt (sources : List (List ℕ)) (fault : Fault) : Type 0 where
   pub lines : List Line
   pub are : HaveLines sources lines
+  pub file : File
+  pub spelled : IsProgram lines file
   pub place : Place
-  pub refused : IsReading lines (Refused place)
-  pub is : fault ≡ not_built place
+  pub first : IsFirst place (unbuilt file)
+  pub is : fault ≡ not_built (begins_at place lines)
 
--- A text fault comes before all others: each phase runs over all files before the next begins.
-abbrev pub Compiles : List (List ℕ) → Result (List ℕ) Fault → Type 0
-Compiles sources (Ok text) = Translation sources text
-Compiles sources (Err fault) = HaveTextFault sources fault ⊎ IsNotBuilt sources fault
+-- the unit is written for one column
+unfoldable pub is_column : TreeUnit → Bool
+is_column u = is_column_unit (plain_unit u)
+
+-- `units U column units C`: the numbers of all units and of the column units
+abbrev pub counts_text : File → List ℕ
+counts_text file =
+    codes "units " ++ (decimal (length file.units) ++ (codes " column units " ++ (decimal (count_by is_column file.units) ++ codes "\n")))
+
+-- the sources spell a program, and the text says how many units it has
+pub record AreCounted (sources : List (List ℕ)) (text : List ℕ) : Type 0 where
+  pub lines : List Line
+  pub are : HaveLines sources lines
+  pub file : File
+  pub spelled : IsProgram lines file
+  pub says : text ≡ counts_text file
+
+-- a translation of the sources, or their first fault
+abbrev pub IsTranslation : List (List ℕ) → Result (List ℕ) Fault → Type 0
+IsTranslation sources (Ok text) = Translation sources text
+IsTranslation sources (Err fault) = HaveTextFault sources fault ⊎ HaveSyntaxFault sources fault ⊎ IsNotBuilt sources fault
+
+-- the number of the sources' units, or their first fault
+abbrev pub IsCount : List (List ℕ) → Result (List ℕ) Fault → Type 0
+IsCount sources (Ok text) = AreCounted sources text
+IsCount sources (Err fault) = HaveTextFault sources fault ⊎ HaveSyntaxFault sources fault
+
+-- Faults of the text come before all others: each phase runs over all files before the next begins.
+abbrev pub Compiles : Command → List (List ℕ) → Result (List ℕ) Fault → Type 0
+Compiles (Translate target directives) sources outcome = IsTranslation sources outcome
+Compiles Check sources outcome = IsCount sources outcome
+
+-- one of the directives has such a word
+abbrev pub has_directive : (DirectiveWord → Bool) → List Directive → Bool
+has_directive is marks = list_any (λ d. is d.word) marks

@@ -11,15 +11,16 @@ use Rattle.claw_top.specs.Answer.{Answer, usage, cannot_read, no_memory, too_lon
 use Rattle.claw_top.specs.declared.compiling.Compiled.{Compiled}
 use Rattle.claw_top.specs.declared.compiling.Compiled.TheVariants as made
 use Rattle.claw_top.specs.declared.end.End.{End}
-use Rattle.claw_top.specs.declared.end.End.TheVariants.{Program, Fault, Usage, CannotRead, TooLong, NoMemory}
+use Rattle.claw_top.specs.declared.end.End.TheVariants.{Program, Counts, Fault, Usage, CannotRead, TooLong, NoMemory}
 
 -- the bytes of the sources
 abbrev pub bytes_of : List (Vec ℕ Global) → List (List ℕ)
 bytes_of sources = map (λ source. source.items) sources
 
--- the text of the program, or the first fault
+-- the text of the program or of the counts, or the first fault
 abbrev pub outcome_of : Compiled → Result (List ℕ) TreeFault
 outcome_of (made.Program file) = Ok (layout_of file)
+outcome_of (made.Counts text) = Ok text.items
 outcome_of (made.Fault fault) = Err fault
 
 -- the names as a list of files, without their bytes
@@ -34,6 +35,7 @@ IsInFiles count (Err fault) = fault.place.file < count
 -- The file of a fault is listed.
 abbrev pub IsListed : End → Type 0
 IsListed (Program file) = ⊤
+IsListed (Counts text) = ⊤
 IsListed (Fault fault files) = fault.place.file < length files
 IsListed Usage = ⊤
 IsListed (CannotRead name) = ⊤
@@ -43,6 +45,7 @@ IsListed NoMemory = ⊤
 -- the status of an end, and its text
 abbrev pub answer_of : End → Answer
 answer_of (Program file) = (0, layout_of file)
+answer_of (Counts text) = (0, text.items)
 answer_of (Fault fault files) = (1, report_of fault (name_at files fault.place.file))
 answer_of Usage = usage
 answer_of (CannotRead name) = cannot_read name.now

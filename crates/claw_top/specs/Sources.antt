@@ -1,11 +1,16 @@
 -- The logical lines of the sources, and their first text fault. The files of a request are numbered from 0.
-use Rattle.std.specs.Prelude.{ℕ, ◌≡◌, ◌+◌, ◌<◌, List, [], ◌∷◌, ◌++◌, length, map, ⊤}
+use Rattle.std.specs.Prelude.{ℕ, ◌≡◌, ◌+◌, ◌<◌, List, [], ◌∷◌, ◌++◌, length, map, ⊤, cond}
+use Rattle.std.specs.List.{All}
 use Rattle.fort_tree.specs.declared.choice.Mode.TheVariants.{Source}
 use Rattle.fort_tree.specs.declared.fault.Fault.{Fault}
 use Rattle.fort_tree.specs.declared.fault.Stop.{Stop}
 use Rattle.fort_tree.specs.declared.fault.Stop.TheVariants.{Fault as Fails, NoMemory}
 use Rattle.fort_tree.specs.declared.statement.Line.{Line}
+use Rattle.fort_tree.specs.declared.place.Place.{Place}
 use Rattle.fort_lex.specs.Lines as lex
+use Rattle.fort_units.specs.Places.{LineInFiles}
+use Rattle.fort_units.specs.Program.{HasFirst}
+use Rattle.scalar_units.specs.Unbuilt.{is_earlier}
 
 -- no text fault is in the source of this number, and these are its lines
 abbrev pub HasLines : ℕ → List ℕ → List Line → Type 0
@@ -39,7 +44,20 @@ abbrev pub HaveTextStop : List (List ℕ) → Stop → Type 0
 HaveTextStop sources (Fails fault) = HaveTextFault sources fault × (fault.place.file < length sources)
 HaveTextStop sources NoMemory = ⊤
 
--- the lines are in files before this one
+-- all places of the lines are in the first of the files, so many
 abbrev pub AreBefore : ℕ → List Line → Type 0
-AreBefore count [] = ⊤
-AreBefore count (line ∷ lines) = (line.at.file < count) × AreBefore count lines
+AreBefore count lines = All (LineInFiles count) lines
+
+-- why the program of lines is not given: their first fault, which is in one of the files, or refused memory
+abbrev pub HaveSyntaxStop : ℕ → List Line → Stop → Type 0
+HaveSyntaxStop count lines (Fails fault) = HasFirst lines fault × (fault.place.file < count)
+HaveSyntaxStop count lines NoMemory = ⊤
+
+-- The place where the line begins in which this place stands: the last of the lines that begin no later, or else the first.
+abbrev pub begins_after : Place → Place → List Line → Place
+begins_after at begin [] = begin
+begins_after at begin (line ∷ lines) = cond (is_earlier at line.at) begin (begins_after at line.at lines)
+
+abbrev pub begins_at : Place → List Line → Place
+begins_at at [] = at
+begins_at at (line ∷ lines) = begins_after at line.at lines

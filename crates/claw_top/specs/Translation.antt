@@ -14,8 +14,7 @@ use Rattle.claw_meaning.specs.Spread.{Spread}
 use Rattle.claw_meaning.specs.Kept.{Kept}
 use Rattle.fort_spell.specs.Units.{layout_of}
 use Rattle.fort_tree.specs.declared.statement.Line.{Line}
-use Rattle.scalar_reader.specs.declared.reader.Reading.TheVariants.{Empty, Unit as TheUnit}
-use Rattle.scalar_reader.specs.Reading.{IsReading}
+use Rattle.fort_units.specs.Program.{IsProgram}
 use Rattle.claw_top.specs.Sources.{HaveLines}
 
 -- the program of no unit, and of one external unit
@@ -25,10 +24,11 @@ no_unit = record { modules = []; units = []; order = [] }
 abbrev pub one_unit : TreeUnit → File
 one_unit u = record { modules = []; units = u ∷ []; order = item.Unit 0 ∷ [] }
 
--- The sources spell this program.
-pub data AreSpelled (sources : List (List ℕ)) : File → Type 0 where
-  nothing : (lines : List Line) → HaveLines sources lines → IsReading lines Empty → AreSpelled sources no_unit
-  unit : (lines : List Line) (u : TreeUnit) → HaveLines sources lines → IsReading lines (TheUnit u) → AreSpelled sources (one_unit u)
+-- the sources' lines spell the program
+pub record AreSpelled (sources : List (List ℕ)) (file : File) : Type 0 where
+  pub lines : List Line
+  pub are : HaveLines sources lines
+  pub spelled : IsProgram lines file
 
 -- The sources spell one program, and the text is the layout of another. That one has the interface of the sources' program
 -- with its wide variables, erases to it, and has its loops over the columns where they must stand; and for every number of

@@ -1,15 +1,20 @@
 // The compiler: the program that is made of the sources, or their first fault.
 ghost use Rattle.std.specs.Prelude.{◌≡◌, ◌≤◌, IfOk, IfErr, length};
-ghost use Rattle.claw_top.specs.Compile.{Compiles};
-ghost use Rattle.claw_top.specs.Limits.{most_files, most_bytes, total_length};
+ghost use Rattle.fort_units.specs.Program.{IsProgram};
+ghost use Rattle.claw_top.specs.Compile.{Compiles, IsTranslation};
+ghost use Rattle.claw_top.specs.Limits.{most_files, most_bytes, most_lines, total_length};
 ghost use Rattle.claw_top.specs.Outcome.{bytes_of, outcome_of, IsInFiles};
-ghost use Rattle.claw_top.specs.Sources.{HaveLines, HaveTextStop, AreBefore};
+ghost use Rattle.claw_top.specs.Sources.{HaveLines, HaveTextStop, HaveSyntaxStop, AreBefore};
 ghost use Rattle.claw_top.specs.Translation.{no_unit, one_unit};
 
+use crate::counting::counts;
+use crate::placing::begins_at;
+use claw_words::Command;
 use column_scalars::widen;
 use fort_lex::lines;
 use fort_tree::{Fault, File, Item, Line, Mode, NoMemory, Seq, Stop, Unit};
-use scalar_reader::{Reading, read};
+use fort_units::file;
+use scalar_units::first_unbuilt;
 use std::alloc::Global;
 
 /// What is made of the sources.
@@ -17,19 +22,25 @@ use std::alloc::Global;
 pub(crate) enum Compiled {
     /// The translated program.
     Program(File),
+    /// The line that counts their units.
+    Counts(Vec<u8>),
     /// Their first fault.
     Fault(Fault),
 }
 
-// Compiles the sources. They are read as one unit of column scalars, or as none, and the unit is made for all columns.
-pub(crate) fn compile(alloc: Global, sources: &[Vec<u8>]) -> Result<Compiled, NoMemory>
+// Does with the sources what the command says.
+pub(crate) fn compile(
+    alloc: Global,
+    command: Command,
+    sources: &[Vec<u8>],
+) -> Result<Compiled, NoMemory>
     requires few { length sources.now ≤ most_files }
     requires small { total_length (bytes_of sources.now) ≤ most_bytes }
-    ensures compiles { IfOk result (λ compiled. Compiles (bytes_of sources.now) (outcome_of compiled)) }
+    ensures compiles { IfOk result (λ compiled. Compiles command (bytes_of sources.now) (outcome_of compiled)) }
     ensures in_files { IfOk result (λ compiled. IsInFiles (length sources.now) (outcome_of compiled)) }
 {
     match all_lines(alloc, sources) {
-        Ok(lines) => compile_lines(alloc, sources, &lines),
+        Ok(lines) => compile_lines(alloc, command, sources, &lines),
         Err(Stop::Fault(fault)) => Ok(Compiled::Fault(fault)),
         Err(Stop::NoMemory) => Err(NoMemory),
     }
@@ -41,6 +52,7 @@ fn all_lines(alloc: Global, sources: &[Vec<u8>]) -> Result<Seq<Line>, Stop>
     requires small { total_length (bytes_of sources.now) ≤ most_bytes }
     ensures lines { IfOk result (HaveLines (bytes_of sources.now)) }
     ensures in_files { IfOk result (AreBefore (length sources.now)) }
+    ensures few { IfOk result (λ lines. length lines ≤ most_lines) }
     ensures stop { IfErr result (HaveTextStop (bytes_of sources.now)) }
 {
     let mut all = Seq::new(alloc);
@@ -55,22 +67,58 @@ fn all_lines(alloc: Global, sources: &[Vec<u8>]) -> Result<Seq<Line>, Stop>
 // Compiles the lines of the sources.
 fn compile_lines(
     alloc: Global,
+    command: Command,
     sources: &[Vec<u8>],
     lines: &Seq<Line>,
 ) -> Result<Compiled, NoMemory>
     requires lines { HaveLines (bytes_of sources.now) lines.now }
     requires in_files { AreBefore (length sources.now) lines.now }
-    ensures compiles { IfOk result (λ compiled. Compiles (bytes_of sources.now) (outcome_of compiled)) }
+    requires few { length lines.now ≤ most_lines }
+    ensures compiles { IfOk result (λ compiled. Compiles command (bytes_of sources.now) (outcome_of compiled)) }
     ensures in_files { IfOk result (λ compiled. IsInFiles (length sources.now) (outcome_of compiled)) }
 {
-    match read(alloc, lines.items())? {
-        Reading::Empty => Ok(Compiled::Program(empty(alloc))),
-        Reading::Unit(unit) => {
-            let wide = widen(alloc, &unit)?;
-            Ok(Compiled::Program(alone(alloc, wide)?))
-        }
-        Reading::Refused(place) => Ok(Compiled::Fault(Fault::outside_profile(place, 13))),
+    match program_of(alloc, sources, lines) {
+        Ok(program) => match command {
+            Command::Translate(..) => translate(alloc, sources, lines, &program),
+            Command::Check => Ok(Compiled::Counts(counts(alloc, &program)?)),
+        },
+        Err(Stop::Fault(fault)) => Ok(Compiled::Fault(fault)),
+        Err(Stop::NoMemory) => Err(NoMemory),
     }
+}
+
+// The program of the lines of the sources.
+fn program_of(alloc: Global, sources: &[Vec<u8>], lines: &Seq<Line>) -> Result<File, Stop>
+    requires in_files { AreBefore (length sources.now) lines.now }
+    requires few { length lines.now ≤ most_lines }
+    ensures spelled { IfOk result (IsProgram lines.now) }
+    ensures stop { IfErr result (HaveSyntaxStop (length sources.now) lines.now) }
+{
+    file(alloc, lines)
+}
+
+// Translates a program, which has to be one unit of column scalars, or none. The unit is made for all columns.
+fn translate(
+    alloc: Global,
+    sources: &[Vec<u8>],
+    lines: &Seq<Line>,
+    program: &File,
+) -> Result<Compiled, NoMemory>
+    requires lines { HaveLines (bytes_of sources.now) lines.now }
+    requires in_files { AreBefore (length sources.now) lines.now }
+    requires spelled { IsProgram lines.now program.now }
+    ensures compiles { IfOk result (λ compiled. IsTranslation (bytes_of sources.now) (outcome_of compiled)) }
+    ensures in_files { IfOk result (λ compiled. IsInFiles (length sources.now) (outcome_of compiled)) }
+{
+    if let Some(place) = first_unbuilt(program) {
+        let begin = begins_at(place, lines.items());
+        return Ok(Compiled::Fault(Fault::outside_profile(begin, 13)));
+    }
+    let Some((unit, _)) = program.units.items().split_first() else {
+        return Ok(Compiled::Program(empty(alloc)));
+    };
+    let wide = widen(alloc, unit)?;
+    Ok(Compiled::Program(alone(alloc, wide)?))
 }
 
 // The program of no unit.

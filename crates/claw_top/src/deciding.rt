@@ -8,6 +8,7 @@ ghost use Rattle.claw_top.specs.Outcome.{listed_of};
 use crate::compiling::{Compiled, compile};
 use crate::end::End;
 use crate::loading::load_all;
+use claw_words::Command;
 use outside::{FileList, Shelf};
 use std::alloc::{AllocError, Global};
 
@@ -15,12 +16,17 @@ use std::alloc::{AllocError, Global};
 const MOST_FILES: usize = 64;
 
 // Loads the named files and compiles them. It has no sink, so nothing is put. Too many files are refused before any load.
-pub(crate) fn decide<'a, F: Shelf>(alloc: Global, names: &'a [&'a str], shelf: &mut F) -> End<'a>
+pub(crate) fn decide<'a, F: Shelf>(
+    alloc: Global,
+    command: Command,
+    names: &'a [&'a str],
+    shelf: &mut F,
+) -> End<'a>
     ensures same_files { F.files shelf.new ≡ F.files shelf.old }
     ensures faults_later { F.faults shelf.old ≤ F.faults shelf.new }
     ensures read_later { F.bytes_read shelf.old ≤ F.bytes_read shelf.new }
     ensures untouched { most_files < length names.now → shelf.new ≡ shelf.old }
-    ensures cause { HasCause (F.files shelf.old) (F.faults shelf.old) (F.faults shelf.new)
+    ensures cause { HasCause command (F.files shelf.old) (F.faults shelf.old) (F.faults shelf.new)
         (F.bytes_read shelf.old) (F.bytes_read shelf.new) (texts_of names.now) result }
 {
     if names.len() > MOST_FILES {
@@ -30,8 +36,9 @@ pub(crate) fn decide<'a, F: Shelf>(alloc: Global, names: &'a [&'a str], shelf: &
         Ok(sources) => sources,
         Err(end) => return end,
     };
-    match compile(alloc, &sources) {
+    match compile(alloc, command, &sources) {
         Ok(Compiled::Program(file)) => End::Program(file),
+        Ok(Compiled::Counts(text)) => End::Counts(text),
         Ok(Compiled::Fault(fault)) => match listed(alloc, names) {
             Ok(files) => End::Fault(fault, files),
             Err(_) => End::NoMemory,

@@ -8,6 +8,8 @@ use outside::FileList;
 pub(crate) enum End<'a> {
     /// The sources have no fault, and this is the program that is made of them.
     Program(File),
+    /// The sources have no fault, and this line counts their units.
+    Counts(Vec<u8>),
     /// The first fault of the sources, and the names of their files.
     Fault(Fault, FileList),
     /// The words are no request.

@@ -16,6 +16,7 @@ pub(crate) fn finish<O: Sink, E: Sink>(end: &End<'_>, out: &mut O, err: &mut E) 
 {
     match end {
         End::Program(file) => status_of(spell(file, out), 0),
+        End::Counts(text) => status_of(put_all(out, text.as_slice()), 0),
         End::Fault(fault, files) => status_of(report(fault, files, err), 1),
         End::Usage => status_of(
             put_all(

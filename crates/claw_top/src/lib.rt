@@ -8,10 +8,12 @@
 #![tactic(auto)]
 
 mod compiling;
+mod counting;
 mod deciding;
 mod end;
 mod finishing;
 mod loading;
+mod placing;
 mod reporting;
 mod top;
 

@@ -1,6 +1,7 @@
 // The sources, loaded one after another.
 ghost use Rattle.std.specs.Prelude.{◌≡◌, ◌≤◌, length, IfOk, IfErr};
 ghost use Rattle.claw_words.specs.Command.{texts_of};
+ghost use Rattle.claw_words.specs.declared.reading.Command.{Command};
 ghost use Rattle.claw_top.specs.Cause.{HasCause, WereRead};
 ghost use Rattle.claw_top.specs.Limits.{most_files};
 ghost use Rattle.claw_top.specs.Outcome.{bytes_of};
@@ -24,8 +25,8 @@ pub(crate) fn load_all<'a, F: Shelf>(
     ensures read_later { F.bytes_read shelf.old ≤ F.bytes_read shelf.new }
     ensures read { IfOk result (λ sources. WereRead (F.files shelf.old) (F.bytes_read shelf.old) (F.bytes_read shelf.new)
         (texts_of names.now) (bytes_of sources.items)) }
-    ensures refused { IfErr result (HasCause (F.files shelf.old) (F.faults shelf.old) (F.faults shelf.new)
-        (F.bytes_read shelf.old) (F.bytes_read shelf.new) (texts_of names.now)) }
+    ensures refused { IfErr result (λ end. (command : Command) → HasCause command (F.files shelf.old) (F.faults shelf.old) (F.faults shelf.new)
+        (F.bytes_read shelf.old) (F.bytes_read shelf.new) (texts_of names.now) end) }
 {
     let mut sources = Vec::new(alloc);
     let mut room = MOST_BYTES;

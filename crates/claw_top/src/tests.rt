@@ -62,18 +62,25 @@ fn prefixes(rt: HostRuntime) -> Result<(), Fail> {
 fn refusals(rt: HostRuntime) -> Result<(), Fail> {
     let words = ["claw", "translate", "one.f90"];
     let cases = [
-        ("module m\n", "one.f90:1:1: E20 not in the profile 13\n"),
+        ("module m\n", "one.f90:1:1: E11 nesting\n"),
+        ("\n\n\n\n\n\n\n\n\n  end\n", "one.f90:10:3: E11 nesting\n"),
+        ("subroutine s(a)\n  call f\n", "one.f90:2:1: E11 nesting\n"),
+        ("subroutine s(a)\n", "one.f90:1:1: E11 nesting\n"),
         (
-            "\n\n\n\n\n\n\n\n\n  end\n",
-            "one.f90:10:1: E20 not in the profile 13\n",
+            "  module m\n  end module\n",
+            "one.f90:1:3: E20 not in the profile 13\n",
         ),
         (
-            "subroutine s(a)\n  call f\n",
-            "one.f90:2:1: E20 not in the profile 13\n",
+            "  subroutine s(a)\n    integer, intent(in) :: a\n  end\n",
+            "one.f90:1:3: E20 not in the profile 13\n",
         ),
         (
-            "subroutine s(a)\n",
-            "one.f90:1:1: E20 not in the profile 13\n",
+            "subroutine s(a)\n  integer, intent(out) :: a\n  !$claw define dimension c(1:n) parallelize data(a)\n  call f\nend\n",
+            "one.f90:4:3: E20 not in the profile 13\n",
+        ),
+        (
+            "subroutine s(a)\n  integer, intent(out) :: a\n  integer :: &\n   k\n  !$claw define dimension c(1:n) parallelize data(a)\nend\n",
+            "one.f90:3:3: E20 not in the profile 13\n",
         ),
         (
             "integer :: aaaaaaaaaaaaaaaaaaaaaaaaaaaaaaaaaaaaaaaaaaaaaaaaaaaaaaaaaaaaaaaa\n",
@@ -81,11 +88,11 @@ fn refusals(rt: HostRuntime) -> Result<(), Fail> {
         ),
         (
             "integer :: aaaaaaaaaaaaaaaaaaaaaaaaaaaaaaaaaaaaaaaaaaaaaaaaaaaaaaaaaaaaaaa\n",
-            "one.f90:1:1: E20 not in the profile 13\n",
+            "one.f90:1:1: E11 nesting\n",
         ),
         (
             "a                                                                                                                                  b\n",
-            "one.f90:1:1: E20 not in the profile 13\n",
+            "one.f90:1:132: E10 syntax\n",
         ),
         (
             " a                                                                                                                                  b\n",
@@ -108,7 +115,7 @@ fn refusals(rt: HostRuntime) -> Result<(), Fail> {
 #[test]
 fn words_and_files(rt: HostRuntime) -> Result<(), Fail> {
     let usage = "usage: claw translate, check, run, run-target or gen\n";
-    let cases: [(&[&str], u8, &str); 14] = [
+    let cases: [(&[&str], u8, &str); 15] = [
         (&["claw", "translate", "a", "one.f90"], 3, "cannot read a\n"),
         (&["claw", "translate", "one.f90", "a"], 3, "cannot read a\n"),
         (&["claw", "translate", "-"], 3, "cannot read -\n"),
@@ -123,7 +130,8 @@ fn words_and_files(rt: HostRuntime) -> Result<(), Fail> {
         (&["claw"], 2, usage),
         (&["claw", "translate"], 2, usage),
         (&["claw", "check"], 2, usage),
-        (&["claw", "check", "one.f90"], 2, usage),
+        (&["claw", "check", "one.f90"], 0, ""),
+        (&["claw", "check", "one.f90", "--target=cpu"], 2, usage),
         (&["claw", "translate", "-x"], 2, usage),
         (&["claw", "translate", "one.f90", "--help"], 2, usage),
         (
@@ -147,6 +155,52 @@ fn words_and_files(rt: HostRuntime) -> Result<(), Fail> {
     Ok(())
 }
 
+const COLUMN: &str =
+    "module mo_column\ncontains\n  subroutine compute_column(nz, q, t)\n    implicit none\n    integer, intent(in) :: nz\n    integer, intent(inout) :: t(:), q(:)\n    integer :: k, c\n    !$claw define dimension proma(1:nproma) &\n    !$claw parallelize\n    c = 5\n    do k = 2, nz\n      t(k) = c * k\n      q(k) = q(k - 1) + t(k) * c\n    end do\n    q(nz) = q(nz) * c\n  end subroutine compute_column\nend module mo_column\n";
+
+// What is said of each checked source, on the output or on standard error.
+#[test]
+fn checks(rt: HostRuntime) -> Result<(), Fail> {
+    let words = ["claw", "check", "one.f90"];
+    let cases = [
+        ("", "units 0 column units 0\n", ""),
+        (SOURCE, "units 1 column units 1\n", ""),
+        (COLUMN, "units 1 column units 1\n", ""),
+        (
+            "subroutine a\nend\ninteger function f(x)\ninteger, intent(in) :: x\nf = x\nend function f\n",
+            "units 2 column units 0\n",
+            "",
+        ),
+        (
+            "subroutine s(x)\n  integer, intent(inout) :: x\n  x = y\n  x = x +\nend subroutine s\n",
+            "",
+            "one.f90:4:9: E10 syntax\n",
+        ),
+        (
+            "subroutine s(x)\n  integer, intent(inout) :: x\n  integer :: k\n  do k = 1, 3\n",
+            "",
+            "one.f90:4:1: E11 nesting\n",
+        ),
+        ("  stop\n", "", "one.f90:1:3: E20 not in the profile 3\n"),
+        ("!$claw kcache\n", "", "one.f90:1:1: E40 directive\n"),
+        (
+            "subroutine s\n  !$claw loop-fusion\nend\n",
+            "",
+            "one.f90:2:3: E41 directive place\n",
+        ),
+    ];
+    for (source, counts, report) in cases {
+        let mut shelf = shelf_of(rt.alloc(), source)?;
+        let mut out = sink(rt.alloc())?;
+        let mut err = sink(rt.alloc())?;
+        let status = claw(rt.alloc(), &words, &mut shelf, &mut out, &mut err);
+        assert_eq!(rt; status, u8::from(counts.is_empty()), "{report}");
+        assert!(rt; out.text() == counts.as_bytes(), "{counts}");
+        assert!(rt; err.text() == report.as_bytes(), "{report}");
+    }
+    Ok(())
+}
+
 // The report of a fault in the second file has its name.
 #[test]
 fn second_file(rt: HostRuntime) -> Result<(), Fail> {
@@ -158,7 +212,7 @@ fn second_file(rt: HostRuntime) -> Result<(), Fail> {
     let mut err = sink(rt.alloc())?;
     let words = ["claw", "translate", "one.f90", "two.f90"];
     assert_eq!(rt; claw(rt.alloc(), &words, &mut shelf, &mut out, &mut err), 1);
-    assert!(rt; err.text() == b"two.f90:1:1: E20 not in the profile 13\n".as_slice());
+    assert!(rt; err.text() == b"two.f90:1:1: E11 nesting\n".as_slice());
     assert!(rt; out.text().is_empty());
     Ok(())
 }
@@ -241,16 +295,16 @@ fn failing_load(rt: HostRuntime) -> Result<(), Fail> {
 // Each put of a report in turn fails: the status is 4, and a prefix was put.
 #[test]
 fn failing_report(rt: HostRuntime) -> Result<(), Fail> {
-    let report = b"one.f90:1:1: E20 not in the profile 13\n";
+    let report = b"one.f90:1:1: E11 nesting\n";
     let words = ["claw", "translate", "one.f90"];
-    for put in 1..41u64 {
+    for put in 1..27u64 {
         let mut shelf = shelf_of(rt.alloc(), "end\n")?;
         let mut out = sink(rt.alloc())?;
         let mut err = MemSink::new(rt.alloc(), 100, failing(rt.alloc(), put)?)?;
         err.narrow(1);
         let status = claw(rt.alloc(), &words, &mut shelf, &mut out, &mut err);
-        // A report of 39 bytes takes as many puts.
-        assert_eq!(rt; status, if put == 40 { 1 } else { 4 }, "put {put}");
+        // A report of 25 bytes takes as many puts.
+        assert_eq!(rt; status, if put == 26 { 1 } else { 4 }, "put {put}");
         assert!(rt; out.text().is_empty());
         assert!(rt; report.starts_with(err.text()), "put {put}");
         assert_eq!(rt; err.text().len() as u64, put - 1, "put {put}");

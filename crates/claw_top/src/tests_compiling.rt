@@ -1,8 +1,11 @@
 ghost use Rattle.std.specs.Prelude.{◌≤◌, length, IfOk};
 
 use crate::compiling::{Compiled, compile};
-use fort_tree::{Code, Fault, NoMemory};
+use claw_words::Command;
+use fort_tree::{Code, Directives, Fault, NoMemory, Target};
 use std::alloc::Global;
+
+const TRANSLATE: Command = Command::Translate(Target::Cpu, Directives::Plain);
 
 const SOURCE: &str =
     "! comment\nsubroutine s(a) ! dummy\n  integer, intent(out) &\n    :: a\n!$claw define dimension c(1:n) &\n!$claw parallelize data(a)\n  a = 1; a = a + &\n  2\nend subroutine s\n";
@@ -22,8 +25,8 @@ fn bytes_of(alloc: Global, text: &str) -> Result<Vec<u8>, NoMemory>
 fn fault_of(alloc: Global, text: &str) -> Result<Option<Fault>, NoMemory> {
     let mut sources = Vec::new(alloc);
     sources.push(bytes_of(alloc, text)?)?;
-    Ok(match compile(alloc, &sources)? {
-        Compiled::Program(_) => None,
+    Ok(match compile(alloc, TRANSLATE, &sources)? {
+        Compiled::Program(_) | Compiled::Counts(_) => None,
         Compiled::Fault(fault) => Some(fault),
     })
 }
@@ -33,8 +36,8 @@ fn fault_of_two(alloc: Global, first: &str, second: &str) -> Result<Option<Fault
     let mut sources = Vec::new(alloc);
     sources.push(bytes_of(alloc, first)?)?;
     sources.push(bytes_of(alloc, second)?)?;
-    Ok(match compile(alloc, &sources)? {
-        Compiled::Program(_) => None,
+    Ok(match compile(alloc, TRANSLATE, &sources)? {
+        Compiled::Program(_) | Compiled::Counts(_) => None,
         Compiled::Fault(fault) => Some(fault),
     })
 }
@@ -56,7 +59,7 @@ fn one_source(rt: HostRuntime) {
         ),
         ("module m\n", 1),
         ("subroutine s(a)\nimplicit none\nimplicit none\n", 3),
-        ("subroutine s(a)\n\nend subroutine\n", 3),
+        ("subroutine s(a)\n\nend subroutine\n", 1),
         ("subroutine s(a)\ninteger, intent(in) :: a\n", 2),
         ("subroutine s(a)\ninteger, intent(in) :: a;\n", 2),
         ("subroutine s(a)\ninteger, intent(in) :: &\n", 2),
@@ -68,7 +71,7 @@ fn one_source(rt: HostRuntime) {
         ("subroutine s(claw_a)\n", 1),
         (
             "subroutine s(a)\ninteger, intent(in) :: a, claws\n!$claw define dimension c(1:n) parallelize data(a)\nend subroutine",
-            1,
+            2,
         ),
         (
             "subroutine s(a,b)\ninteger, intent(out) :: a\n!$claw define dimension c(1:n) parallelize data(a,b)\nend subroutine",
@@ -84,27 +87,27 @@ fn one_source(rt: HostRuntime) {
         ),
         (
             "\nsubroutine s(a)\ninteger, intent(out) :: a\n!$claw define dimension c(1:n) parallelize data(a)\na=b\nend subroutine",
-            2,
+            5,
         ),
         (
             "subroutine s(a)\ninteger, intent(in) :: a\n!$claw define dimension c(1:n) parallelize data(a)\na=1\nend subroutine",
-            1,
+            4,
         ),
         (
             "subroutine s(a)\ninteger, intent(out) :: a\n!$claw define dimension c(1:c) parallelize data(a)\nend subroutine",
-            1,
+            3,
         ),
         (
             "subroutine s(a)\ninteger, intent(out) :: a\n!$claw define dimension s(1:n) parallelize data(a)\nend subroutine",
-            1,
+            3,
         ),
         (
             "subroutine s(a)\ninteger, intent(out) :: a\n!$claw define dimension c(1:n) parallelize data(a,a)\nend subroutine",
-            1,
+            3,
         ),
         (
             "subroutine s(a)\ninteger, intent(out) :: a\n!$claw define dimension c(1:n) parallelize data(a)\nend subroutine t",
-            1,
+            4,
         ),
         (
             "subroutine s(a)\ninteger, intent(out) :: a\n!$claw define dimension c(2147483648:n) parallelize data(a)\nend subroutine",
@@ -139,11 +142,11 @@ fn two_sources(rt: HostRuntime) {
         (
             "subroutine s(a)\ninteger, intent(out) :: a\n!$claw define dimension c(1:n) parallelize data(a)\n",
             "\nend subroutine\n",
-            Code::E20,
-            1,
+            Code::E11,
+            0,
             2,
         ),
-        ("subroutine s(a)\n", "", Code::E20, 0, 1),
+        ("subroutine s(a)\n", "", Code::E11, 0, 1),
         ("module m\n", "a = #\n", Code::E03, 1, 1),
         ("a = #\n", "#\n", Code::E03, 0, 1),
     ];

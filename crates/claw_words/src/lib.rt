@@ -9,7 +9,7 @@ mod matching;
 mod reading;
 
 pub use fault::WordsFault;
-pub use reading::{Request, read_words};
+pub use reading::{Command, Request, read_words};
 
 #[cfg(test)]
 mod tests;

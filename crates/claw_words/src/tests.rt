@@ -4,7 +4,7 @@ use std::test::Fail;
 // Words that are a request, with the number of its files, and words that are none, with 0.
 #[test]
 fn requests(rt: HostRuntime) -> Result<(), Fail> {
-    let cases: [(&[&str], usize); 22] = [
+    let cases: [(&[&str], usize); 26] = [
         (&["claw", "translate", "a"], 1),
         (&["claw", "translate", "a", "b", "a"], 3),
         (&["claw", "translate", "-"], 1),
@@ -17,7 +17,11 @@ fn requests(rt: HostRuntime) -> Result<(), Fail> {
         (&["claw"], 0),
         (&["claw", "translate"], 0),
         (&["translate", "a"], 0),
-        (&["claw", "check", "a"], 0),
+        (&["claw", "check", "a"], 1),
+        (&["claw", "check", "a", "b"], 2),
+        (&["claw", "check"], 0),
+        (&["claw", "check", "a", "--target=cpu"], 0),
+        (&["claw", "run", "a"], 0),
         (&["claw", "translate", "-x"], 0),
         (&["claw", "translate", "a", "--help"], 0),
         (&["claw", "-h"], 0),

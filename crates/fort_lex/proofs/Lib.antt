@@ -7,3 +7,5 @@ mod Marking
 mod Placing
 mod Lining
 mod Unique
+pub mod Few
+pub mod LinePlaces

@@ -1,9 +1,12 @@
 //! Laws of the definitions. The functions do nothing; what they ensure holds of all texts.
-ghost use Rattle.std.specs.Prelude.{◌≡◌, ◌++◌, ◌∷◌, [], ℕ, List, Some, None, true, false, codes, replicate};
+ghost use Rattle.std.specs.Prelude.{◌≡◌, ◌≤◌, ◌+◌, length, map, ◌++◌, ◌∷◌, [], ℕ, List, Some, None, true, false, codes, replicate};
 ghost use Rattle.fort_tree.specs.declared.choice.Mode.{Mode};
 ghost use Rattle.fort_tree.specs.declared.fault.Fault.{Fault};
-ghost use Rattle.fort_lex.specs.Lines.{Written, HasLines, AreLines, IsFirstTextFault};
+ghost use Rattle.fort_tree.specs.declared.statement.Line.{Line};
+ghost use Rattle.fort_lex.specs.Lines.{Written, written, HasLines, AreLines, IsFirstTextFault};
+ghost use Rattle.std.specs.List.{All};
 ghost use Rattle.fort_lex.specs.Going.{Going};
+ghost use Rattle.fort_lex.specs.Places.{InFile, StandsIn};
 ghost use Rattle.fort_lex.specs.Examples.{lines, first, plain};
 ghost use Rattle.fort_tree.specs.declared.fault.Code.TheVariants.{E01, E02, E03};
 
@@ -22,6 +25,17 @@ pub fn lines_or_a_fault()
 {
     lines_are_unique();
 }
+
+/// A text has at most one logical line more than bytes.
+pub fn lines_are_few()
+    ensures { (file : ℕ) (mode : Mode) (text : List ℕ) (lines : List Written) (faults : List Fault) → HasLines file mode text lines faults → length lines ≤ length text + 1 }
+{}
+
+/// The lines of text number `file` and its first fault have all their places in it.
+pub fn lines_stand_in_their_file()
+    ensures lines { (file : ℕ) (mode : Mode) (text : List ℕ) (lines : List Line) (faults : List Fault) → HasLines file mode text (map written lines) faults → All (StandsIn file) lines }
+    ensures fault { (file : ℕ) (mode : Mode) (text : List ℕ) (fault : Fault) → IsFirstTextFault file mode text fault → InFile file fault.place }
+{}
 
 /// Each text has its lines and faults, and the way over the lines one after the other gives them.
 pub fn each_text_is_gone_over()

@@ -13,7 +13,8 @@ mod statements;
 mod text;
 
 pub use laws::{
-    each_text_is_gone_over, faults_by_example, lines_are_unique, lines_by_example, lines_or_a_fault,
+    each_text_is_gone_over, faults_by_example, lines_are_few, lines_are_unique, lines_by_example,
+    lines_or_a_fault, lines_stand_in_their_file,
 };
 pub use text::lines;
 

@@ -1,9 +1,11 @@
-use Rattle.std.proofs.Common.{rules, ◌+◌, take, length, sym, subst, ap, arith, List, ℕ}
+use Rattle.std.proofs.Common.{rules, ◌+◌, ◌≤◌, take, length, sym, subst, ap, arith, List, ℕ}
+use Rattle.fort_tree.specs.declared.statement.Line.{Line}
+use Rattle.claw_top.specs.Limits.{total_length}
 use Rattle.claw_top.specs.Outcome.{bytes_of}
 use Rattle.fort_tree.specs.declared.choice.Mode.TheVariants.{Source}
 use Rattle.fort_lex.specs.Lines.{IsFirstTextFault}
 use Rattle.claw_top.specs.Sources.{HasLines, HaveLines, HaveTextStop, AreBefore}
-use Rattle.claw_top.proofs.Collecting.{next-lines, next-before, stops, one-length}
+use Rattle.claw_top.proofs.Collecting.{next-lines, next-before, next-few, stops, one-length}
 use Rattle.claw_top.proofs.compiling.all_lines.Goals as goal
 
 -- src/compiling.rt
@@ -27,6 +29,8 @@ loop-source-preserved c =
           before.file before.lines lines);
       in_files = subst (AreBefore (c.loop-source.source-index + 1)) (sym new.1)
           (next-before c.loop-source.source-index c.loop-source.file c.source-item.result.items c.loop-source.all new.0 before.file before.in_files lines);
+      few = subst (λ (ls : List Line). length ls ≤ total_length (bytes_of (take (c.loop-source.source-index + 1) c.args.sources.now)) + (c.loop-source.source-index + 1)) (sym new.1)
+          (next-few c.args.sources.now c.loop-source.source-index c.loop-source.file c.source-item.result c.loop-source.all new.0 c.loop-source-test.true c.source-item.is before.few lines);
     }
 
 pub returns-in_err-lines-clause-stop : goal.returns-in_err-lines-clause-stop

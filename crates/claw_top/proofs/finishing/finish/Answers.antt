@@ -5,8 +5,8 @@ use Rattle.claw_top.proofs.finishing.finish.Goals as goal
 pub returns-in-Usage : goal.returns-in-Usage
 returns-in-Usage g c = rw c.in-Usage.is (
   refl,
-  puts_of c.put_all.result _ _ _ _ _ _ _ c.status_of-in-Usage.ensures.ok c.status_of-in-Usage.ensures.failed
-      c.put_all.ensures.took c.put_all.ensures.part c.put_all.ensures.failed,
+  puts_of c.put_all-in-Usage.result _ _ _ _ _ _ _ c.status_of-in-Usage.ensures.ok c.status_of-in-Usage.ensures.failed
+      c.put_all-in-Usage.ensures.took c.put_all-in-Usage.ensures.part c.put_all-in-Usage.ensures.failed,
 )
 
 pub returns-in-CannotRead : goal.returns-in-CannotRead

@@ -6,7 +6,7 @@ use Rattle.claw_top.proofs.Loads.{names_split, names_next, names_few, names_left
 use Rattle.claw_top.proofs.loading.load_all.Goals as goal
 
 pub returns-in-Err-Failed-clause-refused : goal.returns-in-Err-Failed-clause-refused
-returns-in-Err-Failed-clause-refused g c =
+returns-in-Err-Failed-clause-refused g c = λ command.
     let i = c.loop-name.name-index in (
       bytes_of c.loop-name.sources.items,
       reaches_next _ _ _ (texts_of c.args.names.now) (texts_of (take i c.args.names.now)) _ (texts_of (drop (suc i) c.args.names.now)) _
@@ -15,7 +15,7 @@ returns-in-Err-Failed-clause-refused g c =
     )
 
 pub returns-in-Err-TooLong-clause-refused : goal.returns-in-Err-TooLong-clause-refused
-returns-in-Err-TooLong-clause-refused g c =
+returns-in-Err-TooLong-clause-refused g c = λ command.
     let i = c.loop-name.name-index in
     inr (
       (slice_index_or c.args.names.now i (record { ref_ptr = (0, 0); now = [] })).now,

@@ -1,0 +1,13 @@
+pub mod Shapes
+pub mod Statements
+pub mod Executables
+pub mod Divisions
+pub mod Lines
+pub mod Faultless
+pub mod Noting
+pub mod Going
+pub mod Endings
+pub mod AddLaws
+pub mod WellFormed
+pub mod NestingPlaces
+pub mod LinePlaces

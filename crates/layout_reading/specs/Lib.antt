@@ -1,0 +1,9 @@
+pub mod Readable
+pub mod Shown
+pub mod Tokens
+pub mod Printable
+pub mod Statements
+pub mod FormLines
+pub mod Nested
+pub mod Programs
+pub mod SmallPrograms

@@ -1,7 +1,0 @@
-pub mod Forms
-pub mod Units
-pub mod Reading
-pub mod Steps
-pub mod UnitSteps
-pub mod LineSteps
-pub mod ScalarsUnit
