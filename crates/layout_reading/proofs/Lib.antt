@@ -29,3 +29,5 @@ mod Whole
 mod ProgramsRead
 mod SmallProgram
 mod PlainRows
+mod FirstTokens
+mod OneProgram

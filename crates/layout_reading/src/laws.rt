@@ -15,6 +15,7 @@ ghost use Rattle.fort_spell.specs.Expressions.{expr_pieces};
 ghost use Rattle.fort_spell.specs.Rows.{Row, text};
 ghost use Rattle.fort_spell.specs.Statements.{stmts_rows};
 ghost use Rattle.fort_spell.specs.Units.{file_rows, layout_of};
+ghost use Rattle.fort_units.specs.Program.{IsProgram};
 ghost use Rattle.claw_meaning.specs.Plain.{plain_file};
 ghost use Rattle.sound_programs.specs.Nesting.{Inside};
 ghost use Rattle.layout_reading.specs.FormLines.{AreLinesOf, TokenLine};
@@ -27,7 +28,9 @@ ghost use Rattle.layout_reading.specs.Statements.{AreStatement, IsOneRow, IsStat
 ghost use Rattle.layout_reading.specs.SmallPrograms.{idle_file, idle_text};
 ghost use Rattle.layout_reading.specs.Tokens.{piece_texts, texts};
 
+use claw_lines::reading_is_unique;
 use fort_lex::lines_are_unique;
+use sound_programs::forms_nest_into_one_file;
 
 /// The text of rows, spaced and broken into lines, is read as a line for each row, in order, with the tokens of its pieces, and no other.
 pub fn rows_are_read()
@@ -67,6 +70,15 @@ pub fn layouts_are_read()
     ensures alone { (number : ℕ) (file : File) (lines : List Line) (faults : List Fault) → IsPrintableFile file → HasLines number Target (layout_of file) (map written lines) faults → AreFile (map token_line lines) file × (faults ≡ []) }
 {
     lines_are_unique();
+}
+
+/// The text of a file's layout spells that file and no other, places set aside: whatever program its lines are read as has the file's plain tree.
+pub fn layouts_spell_one_file()
+    ensures { (number : ℕ) (file other : File) (lines : List Line) (faults : List Fault) → IsPrintableFile file → HasLines number Target (layout_of file) (map written lines) faults → IsProgram lines other → plain_file other ≡ plain_file file }
+{
+    layouts_are_read();
+    reading_is_unique();
+    forms_nest_into_one_file();
 }
 
 /// Files of one plain tree have one layout: it does not depend on places.
