@@ -30,4 +30,5 @@ mod ProgramsRead
 mod SmallProgram
 mod PlainRows
 mod FirstTokens
+mod OneForm
 mod OneProgram

@@ -1,32 +1,30 @@
 -- Lines that have forms which nest into a file are read as no other program.
-use Rattle.std.proofs.Common.{◌≡◌, ℕ, List, [], ◌∷◌, ◌++◌, true, false, map, refl, sym, ap, ◌∙◌, subst}
+use Rattle.std.proofs.Common.{◌≡◌, ℕ, List, [], ◌∷◌, ◌++◌, map, refl, sym, ap, ◌∙◌, subst}
 use Rattle.std.proofs.lemmas.Bool.{true≢false}
 use Rattle.fort_tree.specs.declared.choice.Mode.{Mode}
 use Rattle.fort_tree.specs.declared.choice.Mode.TheVariants.{Target}
 use Rattle.fort_tree.specs.declared.fault.Fault.{Fault}
 use Rattle.fort_tree.specs.declared.statement.Line.{Line}
-use Rattle.fort_tree.specs.declared.statement.Statement.{Statement, out-Statement}
-use Rattle.fort_tree.specs.declared.stmt.Directive.{Directive}
+use Rattle.fort_tree.specs.declared.statement.Statement.{out-Statement}
 use Rattle.fort_tree.specs.declared.unit.File.{File}
 use Rattle.fort_tree.specs.declared.unit.Item as tree_item
 use Rattle.fort_tree.specs.declared.unit.Module.{Module}
 use Rattle.fort_tree.specs.declared.unit.Unit as tree_unit
 use Rattle.fort_expr.specs.Words.{front_place}
-use Rattle.fort_stmt.specs.Form.{IsStatement}
 use Rattle.fort_units.specs.declared.item.Item.{Item}
 use Rattle.fort_units.specs.Passing.{faults}
 use Rattle.fort_units.specs.Program as program
 use Rattle.fort_units.specs.Program.{HasLine, nothing, whole, faulty, unread, HasLines, no_line, a_line, mode_of, IsProgram}
-use Rattle.claw_lines.specs.Forms as directive_line
 use Rattle.claw_lines.specs.Forms.{IsLine, first_place}
 use Rattle.claw_meaning.specs.Plain.{plain_file}
 use Rattle.sound_programs.specs.Forms as forms
 use Rattle.sound_programs.specs.Forms.{Form, Says}
 use Rattle.sound_programs.specs.Nesting.{Nests, Nests_from, no_more, module_first, unit_first}
-use Rattle.layout_reading.specs.FormLines.{TokenLine, HasForm, says, directs, HaveForms, no_form, form}
+use Rattle.layout_reading.specs.FormLines.{TokenLine, HaveForms, no_form, form}
 use Rattle.layout_reading.specs.Programs.{AreFile, token_line}
 use Rattle.layout_reading.proofs.Declarations.{Each}
 use Rattle.layout_reading.proofs.FirstTokens.{IsHeaded}
+use Rattle.layout_reading.proofs.OneForm.{Gives, a_statement, a_mark, gives, AreBuilt, AskOnce, one_list}
 
 -- LISTS
 
@@ -43,24 +41,11 @@ some_none e = cc
 
 -- A LINE
 
--- what the line says or asks for
-data Gives (l : TokenLine) (g : Form) : Type 0 where
-  a_statement : (s : Statement) → l.directive ≡ false → IsStatement l.tokens s → g ≡ Says (front_place l.tokens) (out-Statement s) → Gives l g
-  a_mark : (d : Directive) → l.directive ≡ true → IsLine (front_place l.tokens) l.tokens (d ∷ []) → g ≡ forms.Directs d → Gives l g
-
-gives : {l : TokenLine} {g : Form} → HasForm l g → Gives l g
-gives (says {s = s} h) = a_statement s refl h refl
-gives (directs {d = d} h) = a_mark d refl h refl
-
 line_front : {mode : Mode} (line : Line) → IsHeaded mode line → line.at ≡ front_place line.tokens
 line_front line h = h.at_first ∙ sym (ap front_place h.tokens_are)
 
 line_first : {mode : Mode} (line : Line) → IsHeaded mode line → first_place line.at line.tokens ≡ front_place line.tokens
 line_first line h = ap (first_place line.at) h.tokens_are ∙ sym (ap front_place h.tokens_are)
-
--- a directive line asks for one list of directives at most
-abbrev pub AskOnce : Type 0
-AskOnce = (line : Line) (these those : List Directive) → directive_line.Directs line these → directive_line.Directs line those → these ≡ those
 
 -- forms nest into one file at most
 abbrev pub NestOnce : Type 0
@@ -105,3 +90,9 @@ one_program once nest_once lines file other h a p =
     let same : p.judged.forms ≡ a.forms = lines_same once Target lines h p.judged.are own a.have in
     let nests : Nests Target a.forms other = in_target lines a.forms other h a.have (subst (λ x. Nests (mode_of lines) x other) same p.nests) in
     ap plain_file (nest_once Target a.forms other a.read nests a.nest) ∙ a.same
+
+-- Lines with forms of two files have those of one, places set aside.
+pub one_text : AreBuilt → AskOnce → NestOnce → (lines : List TokenLine) (file other : File) → AreFile lines file → AreFile lines other → plain_file other ≡ plain_file file
+one_text built once nest_once lines file other a b =
+    let nests : Nests Target a.forms b.read = subst (λ x. Nests Target x b.read) (one_list built once lines b.forms a.forms b.have a.have) b.nest in
+    sym b.same ∙ (ap plain_file (nest_once Target a.forms b.read a.read nests a.nest) ∙ a.same)

@@ -30,6 +30,7 @@ ghost use Rattle.layout_reading.specs.Tokens.{piece_texts, texts};
 
 use claw_lines::reading_is_unique;
 use fort_lex::lines_are_unique;
+use fort_stmt::statements_are_derived;
 use sound_programs::forms_nest_into_one_file;
 
 /// The text of rows, spaced and broken into lines, is read as a line for each row, in order, with the tokens of its pieces, and no other.
@@ -72,11 +73,15 @@ pub fn layouts_are_read()
     lines_are_unique();
 }
 
-/// The text of a file's layout spells that file and no other, places set aside: whatever program its lines are read as has the file's plain tree.
+/// The text of a file's layout spells that file and no other, places set aside: whatever program its lines are read as, and whatever file their forms nest into,
+/// has the file's plain tree. So files with one layout have one plain tree.
 pub fn layouts_spell_one_file()
-    ensures { (number : ℕ) (file other : File) (lines : List Line) (faults : List Fault) → IsPrintableFile file → HasLines number Target (layout_of file) (map written lines) faults → IsProgram lines other → plain_file other ≡ plain_file file }
+    ensures program { (number : ℕ) (file other : File) (lines : List Line) (faults : List Fault) → IsPrintableFile file → HasLines number Target (layout_of file) (map written lines) faults → IsProgram lines other → plain_file other ≡ plain_file file }
+    ensures spelled { (number : ℕ) (file other : File) → IsPrintableFile file → Spells number (layout_of file) other → plain_file other ≡ plain_file file }
+    ensures same { (file other : File) → IsPrintableFile file → IsPrintableFile other → layout_of other ≡ layout_of file → plain_file other ≡ plain_file file }
 {
     layouts_are_read();
+    statements_are_derived();
     reading_is_unique();
     forms_nest_into_one_file();
 }
