@@ -1,0 +1,13 @@
+pub mod Differing
+pub mod Placing
+pub mod Rounds
+pub mod Places
+pub mod Tabled
+pub mod Given
+pub mod Covering
+pub mod Fitting
+pub mod Sight
+pub mod FirstOf
+pub mod IntentPlaces
+pub mod LinesAre
+pub mod HeadersAre

@@ -1,0 +1,9 @@
+pub mod NameLists
+pub mod Entities
+pub mod Tables
+pub mod Sharing
+pub mod Finding
+pub mod Scoping
+pub mod Leasts
+pub mod FoundAt
+pub mod UsePlaces

@@ -1,0 +1,35 @@
+//! What each name of a program is: lists of different names, the entity that a name is in each scope, and the faults of names.
+#![tactic(auto)]
+
+mod clashes;
+mod columns;
+mod entity;
+mod firsts;
+mod homes;
+mod intents;
+mod laws;
+mod least;
+mod name_set;
+mod rows;
+mod scope;
+mod shared;
+mod symbols;
+mod table;
+#[cfg(test)]
+mod tests;
+mod uses;
+
+pub use clashes::{note_clashes, note_dummies, note_headers, note_seconds};
+pub use entity::{Entity, Home, Sort};
+pub use firsts::Firsts;
+pub use homes::Declared;
+pub use intents::{first_intent_fault, note_intents};
+pub use laws::nothing_where_nothing_is_seen;
+pub use least::{At, Least};
+pub use name_set::NameSet;
+pub use rows::origins;
+pub use scope::{Own, Scope};
+pub use shared::Shared;
+pub use symbols::{Symbols, symbols_of};
+pub use table::Table;
+pub use uses::note_uses;

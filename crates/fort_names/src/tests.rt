@@ -1,0 +1,126 @@
+//! Each public function once.
+
+use crate::{Home, Least, NameSet, Sort, nothing_where_nothing_is_seen, symbols_of};
+use fort_tree::{Code, Decl, File, Kind, Module, Name, NoMemory, Place, Seq, Unit};
+use std::alloc::Global;
+use std::test::Fail;
+
+const AT: Place = Place {
+    file: 0,
+    line: 1,
+    column: 1,
+};
+
+fn named(text: &[u8]) -> Result<Name, Fail> {
+    Ok(Name::read(text).ok_or("no name")?)
+}
+
+fn scalar(alloc: Global, name: Name) -> Decl {
+    Decl {
+        name,
+        at: AT,
+        kind: Kind::I4,
+        intent: None,
+        shape: Seq::new(alloc),
+        value: None,
+    }
+}
+
+fn one_decl(alloc: Global, name: Name) -> Result<Seq<Decl>, NoMemory> {
+    let mut decls = Seq::new(alloc);
+    decls.push(scalar(alloc, name))?;
+    Ok(decls)
+}
+
+fn unit(alloc: Global, name: Name, local: Name) -> Result<Unit, NoMemory> {
+    Ok(Unit {
+        name,
+        at: AT,
+        dummies: Seq::new(alloc),
+        result: None,
+        uses: Seq::new(alloc),
+        decls: one_decl(alloc, local)?,
+        marks: Seq::new(alloc),
+        body: Seq::new(alloc),
+        host: Some(0),
+    })
+}
+
+fn small_file(
+    alloc: Global,
+    host: Name,
+    shared: Name,
+    name: Name,
+    local: Name,
+) -> Result<File, NoMemory> {
+    let mut modules = Seq::new(alloc);
+    modules.push(Module {
+        name: host,
+        at: AT,
+        uses: Seq::new(alloc),
+        decls: one_decl(alloc, shared)?,
+    })?;
+    let mut units = Seq::new(alloc);
+    units.push(unit(alloc, name, local)?)?;
+    Ok(File {
+        modules,
+        units,
+        order: Seq::new(alloc),
+    })
+}
+
+#[test]
+fn names_in_a_row(rt: HostRuntime) -> Result<(), Fail> {
+    let (a, b) = (named(b"a")?, named(b"b")?);
+    let mut names = NameSet::new(rt.alloc());
+    names.insert(a)?;
+    names.insert(b)?;
+    names.insert(a)?;
+    assert_eq!(rt; names.names().len(), 2);
+    assert!(rt; names.has(&b));
+    assert_eq!(rt; names.place(&b), Some(1));
+    assert_eq!(rt; names.at(0), Some(a));
+    assert_eq!(rt; names.at(2), None);
+    Ok(())
+}
+
+#[test]
+fn a_name_of_the_module_around(rt: HostRuntime) -> Result<(), Fail> {
+    let (host, n, s, k) = (named(b"mo")?, named(b"n")?, named(b"s")?, named(b"k")?);
+    let file = small_file(rt.alloc(), host, n, s, k)?;
+    let symbols = symbols_of(rt.alloc(), &file)?;
+    let scope = symbols.units().first().ok_or("no scope")?;
+    let own = scope.find(&k).ok_or("no k")?;
+    assert_eq!(rt; own.home, Home::Local);
+    let around = scope.find(&n).ok_or("no n")?;
+    assert_eq!(rt; around.home, Home::Module(0));
+    assert_eq!(rt; scope.find(&s).ok_or("no s")?.sort, Sort::Unit);
+    assert_eq!(rt; scope.find(&host).ok_or("no mo")?.sort, Sort::Module);
+    assert!(rt;
+        symbols
+            .modules()
+            .first()
+            .ok_or("no scope")?
+            .find(&k)
+            .is_none()
+    );
+    Ok(())
+}
+
+#[test]
+fn the_least_fault(rt: HostRuntime) -> Result<(), Fail> {
+    nothing_where_nothing_is_seen();
+    let mut least = Least::new();
+    let later = Place {
+        file: 0,
+        line: 2,
+        column: 1,
+    };
+    least.note(Code::E3B, later);
+    least.note(Code::E31, AT);
+    least.note(Code::E30, AT);
+    let first = least.first().ok_or("none")?;
+    assert_eq!(rt; first.code, Code::E30);
+    assert_eq!(rt; first.place, AT);
+    Ok(())
+}
