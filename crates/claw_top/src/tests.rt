@@ -67,6 +67,14 @@ fn refusals(rt: HostRuntime) -> Result<(), Fail> {
         ("subroutine s(a)\n  call f\n", "one.f90:2:1: E11 nesting\n"),
         ("subroutine s(a)\n", "one.f90:1:1: E11 nesting\n"),
         (
+            "subroutine add(a, b)\n  integer, intent(in) :: a\n  integer, intent(inout) :: b\n  !$claw define dimension col(1:ncol) parallelize data(a, b)\n  b = b +\nend subroutine add\n",
+            "one.f90:5:9: E10 syntax\n",
+        ),
+        (
+            "subroutine add(a, b)\n  integer, intent(in) :: a\n  integer, intent(inout) :: b\n  !$claw define dimension col(1:ncol) parallelize data(a, b)\n  b = b + c*2\nend subroutine add\n",
+            "one.f90:5:3: E20 not in the profile 13\n",
+        ),
+        (
             "  module m\n  end module\n",
             "one.f90:1:3: E20 not in the profile 13\n",
         ),

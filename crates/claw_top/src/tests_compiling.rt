@@ -2,7 +2,11 @@ ghost use Rattle.std.specs.Prelude.{◌≤◌, length, IfOk};
 
 use crate::compiling::{Compiled, compile};
 use claw_words::Command;
-use fort_tree::{Code, Directives, Fault, NoMemory, Target};
+use fort_lex::lines;
+use fort_spell::spell;
+use fort_tree::{Code, Directives, Fault, File, Mode, NoMemory, Seq, Target};
+use fort_units::file;
+use outside::{MemSink, Numbers};
 use std::alloc::Global;
 
 const TRANSLATE: Command = Command::Translate(Target::Cpu, Directives::Plain);
@@ -163,4 +167,31 @@ fn two_sources(rt: HostRuntime) {
 fn second_source_alone(rt: HostRuntime) {
     let fault = fault_of_two(rt.alloc(), "", SOURCE).expect(&rt, "room");
     assert!(rt; fault.is_none());
+}
+
+// The program of a small text, where it has no fault.
+fn program_of(alloc: Global, text: &str) -> Option<File> {
+    let bytes = bytes_of(alloc, text).ok()?;
+    let mut all = Seq::new(alloc);
+    lines(alloc, 0, bytes.as_slice(), Mode::Source, &mut all).ok()?;
+    if all.len() > 1000000 {
+        return None;
+    }
+    file(alloc, &all).ok()
+}
+
+// What is read is spelled again, in the layout of this project's own.
+#[test]
+fn spelled_again(rt: HostRuntime) {
+    let program = program_of(
+        rt.alloc(),
+        "SUBROUTINE s\nx=-2**2; y = ( a-b )-(c-d)\nz=2**( -1 )\nif(x/=1)then;t = x<y .AND.z>1\nendif\nend\n",
+    )
+    .expect(&rt, "program");
+    let mut out = MemSink::new(rt.alloc(), 1000, Numbers::new(rt.alloc())).expect(&rt, "room");
+    assert!(rt; spell(&program, &mut out).is_ok());
+    assert!(rt;
+        out.text()
+            == b"subroutine s()\n  implicit none\n  x = -2**2\n  y = (a-b)-(c-d)\n  z = 2**(-1)\n  if (x /= 1) t = x < y .and. z > 1\nend subroutine s\n".as_slice()
+    );
 }

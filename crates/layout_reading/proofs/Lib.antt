@@ -32,3 +32,4 @@ mod PlainRows
 mod FirstTokens
 mod OneForm
 mod OneProgram
+mod OneReading

@@ -28,15 +28,15 @@ use Rattle.layout_reading.proofs.OneForm.{Gives, a_statement, a_mark, gives, Are
 
 -- LISTS
 
-first_none : {A : Type 0} (k l : List A) → k ++ l ≡ [] → k ≡ []
+pub first_none : {A : Type 0} (k l : List A) → k ++ l ≡ [] → k ≡ []
 first_none [] l e = refl
 first_none (x ∷ k) l e = absurd cc
 
-second_none : {A : Type 0} (k l : List A) → k ++ l ≡ [] → l ≡ []
+pub second_none : {A : Type 0} (k l : List A) → k ++ l ≡ [] → l ≡ []
 second_none [] l e = e
 second_none (x ∷ k) l e = absurd cc
 
-some_none : {A : Type 0} {x : A} {l : List A} → x ∷ l ≡ [] → ⊥
+pub some_none : {A : Type 0} {x : A} {l : List A} → x ∷ l ≡ [] → ⊥
 some_none e = cc
 
 -- A LINE

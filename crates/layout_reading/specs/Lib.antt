@@ -7,3 +7,4 @@ pub mod FormLines
 pub mod Nested
 pub mod Programs
 pub mod SmallPrograms
+pub mod Readings

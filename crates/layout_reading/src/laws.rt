@@ -1,6 +1,7 @@
 //! Laws of what is written and what is read.
 
 ghost use Rattle.std.specs.Prelude.{◌≡◌, ◌≤◌, ℕ, List, [], false, map};
+ghost use Rattle.std.specs.List.{All};
 ghost use Rattle.fort_tree.specs.declared.choice.Mode.{Mode};
 ghost use Rattle.fort_tree.specs.declared.choice.Mode.TheVariants.{Target};
 ghost use Rattle.fort_tree.specs.declared.expr.Expr.{Expr};
@@ -26,6 +27,7 @@ ghost use Rattle.layout_reading.specs.Readable.{ArePieces, AreReadable};
 ghost use Rattle.layout_reading.specs.Shown.{AreRead, line_of, shown};
 ghost use Rattle.layout_reading.specs.Statements.{AreStatement, IsOneRow, IsStatementOfTokens, statement_pieces};
 ghost use Rattle.layout_reading.specs.SmallPrograms.{idle_file, idle_text};
+ghost use Rattle.layout_reading.specs.Readings.{HasToken};
 ghost use Rattle.layout_reading.specs.Tokens.{piece_texts, texts};
 
 use claw_lines::reading_is_unique;
@@ -82,6 +84,14 @@ pub fn layouts_spell_one_file()
 {
     layouts_are_read();
     statements_are_derived();
+    reading_is_unique();
+    forms_nest_into_one_file();
+}
+
+/// Lines, each with a token, are read as one program at most, places included.
+pub fn programs_are_unique()
+    ensures { (lines : List Line) (file other : File) → All HasToken lines → IsProgram lines file → IsProgram lines other → file ≡ other }
+{
     reading_is_unique();
     forms_nest_into_one_file();
 }
