@@ -16,6 +16,7 @@ use Rattle.fort_units.specs.Program.{IsProgram, HasFirst}
 use Rattle.scalar_units.specs.Unbuilt.{IsFirst, unbuilt}
 use Rattle.claw_words.specs.declared.reading.Command.{Command}
 use Rattle.claw_words.specs.declared.reading.Command.TheVariants.{Translate, Check}
+use Rattle.claw_top.specs.Connected.{IsConnected, HasProgramFault}
 use Rattle.claw_top.specs.Sources.{HaveLines, HaveTextFault, begins_at}
 use Rattle.claw_top.specs.Translation.{Translation}
 
@@ -29,6 +30,12 @@ pub record HaveSyntaxFault (sources : List (List ℕ)) (fault : Fault) : Type 0 
   pub are : HaveLines sources lines
   pub first : HasFirst lines fault
 
+-- the sources spell a program, and this is the first fault of its names and calls
+pub record HaveProgramFault (sources : List (List ℕ)) (fault : Fault) : Type 0 where
+  pub lines : List Line
+  pub are : HaveLines sources lines
+  pub has : HasProgramFault lines fault
+
 -- The sources spell a program which is not one unit of column scalars. The fault stands at the first token of the line
 -- that has the first place which keeps it from being one.
 pub record IsNotBuilt (sources : List (List ℕ)) (fault : Fault) : Type 0 where
@@ -36,6 +43,7 @@ pub record IsNotBuilt (sources : List (List ℕ)) (fault : Fault) : Type 0 where
   pub are : HaveLines sources lines
   pub file : File
   pub spelled : IsProgram lines file
+  pub connected : IsConnected file
   pub place : Place
   pub first : IsFirst place (unbuilt file)
   pub is : fault ≡ not_built (begins_at place lines)
@@ -55,17 +63,18 @@ pub record AreCounted (sources : List (List ℕ)) (text : List ℕ) : Type 0 whe
   pub are : HaveLines sources lines
   pub file : File
   pub spelled : IsProgram lines file
+  pub connected : IsConnected file
   pub says : text ≡ counts_text file
 
 -- a translation of the sources, or their first fault
 abbrev pub IsTranslation : List (List ℕ) → Result (List ℕ) Fault → Type 0
 IsTranslation sources (Ok text) = Translation sources text
-IsTranslation sources (Err fault) = HaveTextFault sources fault ⊎ HaveSyntaxFault sources fault ⊎ IsNotBuilt sources fault
+IsTranslation sources (Err fault) = HaveTextFault sources fault ⊎ HaveSyntaxFault sources fault ⊎ HaveProgramFault sources fault ⊎ IsNotBuilt sources fault
 
 -- the number of the sources' units, or their first fault
 abbrev pub IsCount : List (List ℕ) → Result (List ℕ) Fault → Type 0
 IsCount sources (Ok text) = AreCounted sources text
-IsCount sources (Err fault) = HaveTextFault sources fault ⊎ HaveSyntaxFault sources fault
+IsCount sources (Err fault) = HaveTextFault sources fault ⊎ HaveSyntaxFault sources fault ⊎ HaveProgramFault sources fault
 
 -- Faults of the text come before all others: each phase runs over all files before the next begins.
 abbrev pub Compiles : Command → List (List ℕ) → Result (List ℕ) Fault → Type 0

@@ -1,3 +1,4 @@
+pub mod Connected
 pub mod Limits
 pub mod Sources
 pub mod Translation

@@ -1,5 +1,5 @@
 -- The logical lines of the sources, and their first text fault. The files of a request are numbered from 0.
-use Rattle.std.specs.Prelude.{ℕ, ◌≡◌, ◌+◌, ◌<◌, List, [], ◌∷◌, ◌++◌, length, map, ⊤, cond}
+use Rattle.std.specs.Prelude.{ℕ, ◌≡◌, ◌+◌, ◌<◌, ◌⊎◌, List, [], ◌∷◌, ◌++◌, length, map, ⊤, cond}
 use Rattle.std.specs.List.{All}
 use Rattle.fort_tree.specs.declared.choice.Mode.TheVariants.{Source}
 use Rattle.fort_tree.specs.declared.fault.Fault.{Fault}
@@ -11,6 +11,7 @@ use Rattle.fort_lex.specs.Lines as lex
 use Rattle.fort_units.specs.Places.{LineInFiles}
 use Rattle.fort_units.specs.Program.{HasFirst}
 use Rattle.scalar_units.specs.Unbuilt.{is_earlier}
+use Rattle.claw_top.specs.Connected.{HasProgramFault}
 
 -- no text fault is in the source of this number, and these are its lines
 abbrev pub HasLines : ℕ → List ℕ → List Line → Type 0
@@ -48,10 +49,10 @@ HaveTextStop sources NoMemory = ⊤
 abbrev pub AreBefore : ℕ → List Line → Type 0
 AreBefore count lines = All (LineInFiles count) lines
 
--- why the program of lines is not given: their first fault, which is in one of the files, or refused memory
-abbrev pub HaveSyntaxStop : ℕ → List Line → Stop → Type 0
-HaveSyntaxStop count lines (Fails fault) = HasFirst lines fault × (fault.place.file < count)
-HaveSyntaxStop count lines NoMemory = ⊤
+-- why the program of lines is not given: their first fault of syntax, or else that of its names and calls, which is in one of the files; or refused memory
+abbrev pub HaveProgramStop : ℕ → List Line → Stop → Type 0
+HaveProgramStop count lines (Fails fault) = (HasFirst lines fault ⊎ HasProgramFault lines fault) × (fault.place.file < count)
+HaveProgramStop count lines NoMemory = ⊤
 
 -- The place where the line begins in which this place stands: the last of the lines that begin no later, or else the first.
 abbrev pub begins_after : Place → Place → List Line → Place

@@ -15,6 +15,7 @@ use Rattle.claw_meaning.specs.Kept.{Kept}
 use Rattle.fort_spell.specs.Units.{layout_of}
 use Rattle.fort_tree.specs.declared.statement.Line.{Line}
 use Rattle.fort_units.specs.Program.{IsProgram}
+use Rattle.claw_top.specs.Connected.{IsConnected}
 use Rattle.claw_top.specs.Sources.{HaveLines}
 
 -- the program of no unit, and of one external unit
@@ -38,6 +39,7 @@ pub record Translation (sources : List (List ℕ)) (text : List ℕ) : Type 0 wh
   pub written : File
   pub wide : ℕ → Text → Bool
   pub spelled : AreSpelled sources directed
+  pub connected : IsConnected directed
   pub layout : text ≡ layout_of written
   pub interface : Interface (plain_file directed) (plain_file written) wide
   pub erased : Erased (plain_file directed) (plain_file written) wide

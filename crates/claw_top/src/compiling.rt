@@ -2,18 +2,21 @@
 ghost use Rattle.std.specs.Prelude.{◌≡◌, ◌≤◌, IfOk, IfErr, length};
 ghost use Rattle.fort_units.specs.Program.{IsProgram};
 ghost use Rattle.claw_top.specs.Compile.{Compiles, IsTranslation};
+ghost use Rattle.claw_top.specs.Connected.{IsConnected, HasJudgedStop};
 ghost use Rattle.claw_top.specs.Limits.{most_files, most_bytes, most_lines, total_length};
 ghost use Rattle.claw_top.specs.Outcome.{bytes_of, outcome_of, IsInFiles};
-ghost use Rattle.claw_top.specs.Sources.{HaveLines, HaveTextStop, HaveSyntaxStop, AreBefore};
+ghost use Rattle.claw_top.specs.Sources.{HaveLines, HaveTextStop, HaveProgramStop, AreBefore};
 ghost use Rattle.claw_top.specs.Translation.{no_unit, one_unit};
 
 use crate::counting::counts;
 use crate::placing::begins_at;
+use call_graph::graph;
 use claw_words::Command;
 use column_scalars::widen;
 use fort_lex::lines;
 use fort_tree::{Fault, File, Item, Line, Mode, NoMemory, Seq, Stop, Unit};
 use fort_units::file;
+use name_faults::names;
 use scalar_units::first_unbuilt;
 use std::alloc::Global;
 
@@ -87,14 +90,27 @@ fn compile_lines(
     }
 }
 
-// The program of the lines of the sources.
+// The program of the lines of the sources, without faults of names and calls.
 fn program_of(alloc: Global, sources: &[Vec<u8>], lines: &Seq<Line>) -> Result<File, Stop>
     requires in_files { AreBefore (length sources.now) lines.now }
     requires few { length lines.now ≤ most_lines }
     ensures spelled { IfOk result (IsProgram lines.now) }
-    ensures stop { IfErr result (HaveSyntaxStop (length sources.now) lines.now) }
+    ensures connected { IfOk result IsConnected }
+    ensures stop { IfErr result (HaveProgramStop (length sources.now) lines.now) }
 {
-    file(alloc, lines)
+    let program = file(alloc, lines)?;
+    judge(alloc, &program)?;
+    Ok(program)
+}
+
+// Judges the names of a program, and then its calls.
+fn judge(alloc: Global, program: &File) -> Result<(), Stop>
+    ensures connected { IfOk result (λ done. IsConnected program.now) }
+    ensures stop { IfErr result (HasJudgedStop program.now) }
+{
+    let symbols = names(alloc, program)?;
+    graph(alloc, program, &symbols)?;
+    Ok(())
 }
 
 // Translates a program, which has to be one unit of column scalars, or none. The unit is made for all columns.
@@ -107,6 +123,7 @@ fn translate(
     requires lines { HaveLines (bytes_of sources.now) lines.now }
     requires in_files { AreBefore (length sources.now) lines.now }
     requires spelled { IsProgram lines.now program.now }
+    requires connected { IsConnected program.now }
     ensures compiles { IfOk result (λ compiled. IsTranslation (bytes_of sources.now) (outcome_of compiled)) }
     ensures in_files { IfOk result (λ compiled. IsInFiles (length sources.now) (outcome_of compiled)) }
 {

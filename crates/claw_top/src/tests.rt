@@ -72,7 +72,7 @@ fn refusals(rt: HostRuntime) -> Result<(), Fail> {
         ),
         (
             "subroutine add(a, b)\n  integer, intent(in) :: a\n  integer, intent(inout) :: b\n  !$claw define dimension col(1:ncol) parallelize data(a, b)\n  b = b + c*2\nend subroutine add\n",
-            "one.f90:5:3: E20 not in the profile 13\n",
+            "one.f90:5:11: E30 undeclared name\n",
         ),
         (
             "  module m\n  end module\n",
@@ -84,7 +84,7 @@ fn refusals(rt: HostRuntime) -> Result<(), Fail> {
         ),
         (
             "subroutine s(a)\n  integer, intent(out) :: a\n  !$claw define dimension c(1:n) parallelize data(a)\n  call f\nend\n",
-            "one.f90:4:3: E20 not in the profile 13\n",
+            "one.f90:4:8: E35 unit\n",
         ),
         (
             "subroutine s(a)\n  integer, intent(out) :: a\n  integer :: &\n   k\n  !$claw define dimension c(1:n) parallelize data(a)\nend\n",

@@ -87,7 +87,7 @@ fn one_source(rt: HostRuntime) {
         ),
         (
             "subroutine s(a)\ninteger, intent(out) :: a, a\n!$claw define dimension c(1:n) parallelize data(a)\nend subroutine",
-            1,
+            2,
         ),
         (
             "\nsubroutine s(a)\ninteger, intent(out) :: a\n!$claw define dimension c(1:n) parallelize data(a)\na=b\nend subroutine",
@@ -142,7 +142,7 @@ fn one_source(rt: HostRuntime) {
 #[test]
 fn two_sources(rt: HostRuntime) {
     let cases = [
-        (SOURCE, SOURCE, Code::E20, 1, 2),
+        (SOURCE, SOURCE, Code::E31, 1, 2),
         (
             "subroutine s(a)\ninteger, intent(out) :: a\n!$claw define dimension c(1:n) parallelize data(a)\n",
             "\nend subroutine\n",

@@ -1,0 +1,6 @@
+//! Stand-in.
+#![tactic(auto)]
+
+mod graph_of;
+
+pub use graph_of::{Graph, graph};

@@ -1,0 +1,6 @@
+//! Stand-in.
+#![tactic(auto)]
+
+mod naming;
+
+pub use naming::names;

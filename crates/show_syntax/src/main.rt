@@ -1,0 +1,130 @@
+//! Prints how small sources are read: for each its number, and the report of its first fault of text or syntax, or the number of its units. Each line of
+//! `data/texts` is a `|` and one source, in which `\n`, `\r`, `\t`, `\\` and `\xHH` stand for a byte. What it has to print stands in `stdout`; those lines come from a
+//! model of the language's rules that was written apart from the compiler, and none from the compiler's own output.
+#![tactic(auto)]
+
+use fort_lex::lines;
+use fort_spell::report;
+use fort_tree::{Fault, File, Mode, NoMemory, Seq, Stop};
+use fort_units::file;
+use outside::{DirShelf, FileList, MemSink, Numbers, Shelf};
+use std::alloc::{AllocError, Global};
+use std::io;
+
+const MOST_BYTES: usize = 4194304;
+
+// The most bytes that a run may put.
+const ROOM: u64 = 1000;
+
+const NAME: &str = "a.f90";
+
+fn digit(byte: u8) -> u8 {
+    match byte {
+        b'0'..=b'9' => byte - b'0',
+        b'a'..=b'f' => byte - b'a' + 10,
+        _ => 0,
+    }
+}
+
+/// The byte that the letter behind a backslash stands for, and how many bytes of the text behind the letter belong to it.
+fn escaped(letter: u8, behind: &[u8]) -> (u8, u8) {
+    match (letter, behind) {
+        (b'n', _) => (b'\n', 0),
+        (b'r', _) => (b'\r', 0),
+        (b't', _) => (b'\t', 0),
+        (b'x', [high, low, ..]) => (digit(*high) % 16 * 16 + digit(*low) % 16, 2),
+        _ => (letter, 0),
+    }
+}
+
+/// The text without its escapes.
+fn unescaped(alloc: Global, text: &[u8]) -> Result<Vec<u8>, AllocError> {
+    let mut bytes = Vec::new(alloc);
+    let mut rest = text;
+    for _ in 0..text.len() {
+        let Some((first, behind)) = rest.split_first() else {
+            break;
+        };
+        rest = behind;
+        let mut byte = *first;
+        if byte == b'\\' {
+            let Some((letter, behind)) = rest.split_first() else {
+                break;
+            };
+            let (meant, more) = escaped(*letter, behind);
+            byte = meant;
+            rest = behind.get(more as usize..).unwrap_or(&[]);
+        }
+        bytes.push(byte)?;
+    }
+    Ok(bytes)
+}
+
+/// A list of one file.
+fn listed(alloc: Global) -> Result<FileList, AllocError> {
+    let mut files = FileList::new(alloc);
+    files.push(NAME, b"")?;
+    Ok(files)
+}
+
+fn sink(alloc: Global) -> Result<MemSink, AllocError> {
+    MemSink::new(alloc, ROOM, Numbers::new(alloc))
+}
+
+/// Prints a text without its line ends.
+fn print_flat(rt: &HostRuntime, text: &[u8]) -> io::Result<()> {
+    for byte in text {
+        if *byte != b'\n' {
+            print!(rt; "{}", *byte as char)?;
+        }
+    }
+    Ok(())
+}
+
+fn print_fault(rt: &HostRuntime, fault: &Fault) -> io::Result<()> {
+    let files = listed(rt.alloc())?;
+    let mut put = sink(rt.alloc())?;
+    if report(fault, &files, &mut put).is_err() {
+        return print!(rt; "no room");
+    }
+    print_flat(rt, put.text())
+}
+
+/// The program of a text.
+fn program_of(alloc: Global, text: &[u8]) -> Result<File, Stop> {
+    let mut all = Seq::new(alloc);
+    if text.len() > MOST_BYTES {
+        return Err(Stop::NoMemory);
+    }
+    lines(alloc, 0, text, Mode::Source, &mut all)?;
+    file(alloc, &all)
+}
+
+fn show(rt: &HostRuntime, number: u64, text: &[u8]) -> io::Result<()> {
+    let text = unescaped(rt.alloc(), text)?;
+    print!(rt; "{number} ")?;
+    match program_of(rt.alloc(), text.as_slice()) {
+        Ok(program) => print!(rt; "units {}", program.units.len())?,
+        Err(Stop::Fault(fault)) => print_fault(rt, &fault)?,
+        Err(Stop::NoMemory) => print!(rt; "no memory")?,
+    }
+    println!(rt; "")
+}
+
+fn main(rt: HostRuntime) -> io::Result<()> {
+    let mut texts = Vec::new(rt.alloc());
+    if DirShelf::new(&rt)
+        .load("texts", &mut texts, MOST_BYTES as u64)
+        .is_err()
+    {
+        return println!(rt; "cannot read");
+    }
+    let mut number: u64 = 0;
+    for line in texts.as_slice().split(|byte| *byte == b'\n') {
+        if let Some((_, text)) = line.split_first() {
+            number = number.saturating_add(1);
+            show(&rt, number, text)?;
+        }
+    }
+    Ok(())
+}
