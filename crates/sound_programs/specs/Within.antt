@@ -1,11 +1,12 @@
 -- That all places in a placed tree have a property: those of its expressions, names, statements, directives, declarations, USE
 -- lines with the names behind ONLY, dummies, results and headers.
-use Rattle.std.specs.Prelude.{⊤, List, Option, Some, None}
+use Rattle.std.specs.Prelude.{⊤, List, Option, Some, None, Bool, IsTrue}
 use Rattle.std.specs.List.{AllByRecursion}
 use Rattle.fort_tree.specs.declared.place.Place.{Place}
 use Rattle.fort_tree.specs.declared.stmt.Named.{Named}
 use Rattle.fort_tree.specs.declared.unit.Use.{Use}
 use Rattle.sound_programs.specs.Placed.{Expr, Numeral, Boolean, Name, Reference, Signed, Binary, Paren, Subscripts, No_more, One, Section, Limit, Unbounded, Bounded, Dimension, Decl, Directive, Head, Range, Single, Span, Stmt, Assign, Call, If, Select, Do, Block, Piece, Exit, Cycle, Return, Stmts, Done, Then, Arms, No_arm, Arm, Cases, No_case, Case, Otherwise, Nothing_else, Else, Unit, Module, Program}
+use Rattle.sound_programs.specs.Faults.{Found}
 
 -- where there is one, it has the property
 abbrev pub InOption : {A : Type 0} → (A → Type 0) → Option A → Type 0
@@ -104,3 +105,13 @@ module _ (P : Place → Type 0) where
   -- all places of a program have the property
   abbrev pub AllPlaces : Program → Type 0
   AllPlaces p = AllByRecursion AllInModule p.modules × AllByRecursion AllInUnit p.units
+
+-- Of a property that a test decides
+
+-- all places of a program pass
+abbrev pub AllPass : (Place → Bool) → Program → Type 0
+AllPass test = AllPlaces (λ at. IsTrue (test at))
+
+-- the places of these faults pass
+abbrev pub FaultsPass : (Place → Bool) → List Found → Type 0
+FaultsPass test faults = AllByRecursion (λ fault. IsTrue (test fault.at)) faults
