@@ -9,3 +9,12 @@ pub mod OneFile
 pub mod KindsAgree
 pub mod FirstFaults
 pub mod Origins
+pub mod WithinLists
+pub mod WithinSteps
+pub mod WithinPlaces
+pub mod NamesWithin
+pub mod CallsWithin
+pub mod KindsWithin
+pub mod RanksWithin
+pub mod ArgumentsWithin
+pub mod FaultsWithin

@@ -27,6 +27,7 @@ pub mod RankRows
 pub mod ArgumentRows
 pub mod FileRows
 pub mod SoundRow
+pub mod Within
 pub mod Laws
 pub mod Visible
 pub mod VisibleRow

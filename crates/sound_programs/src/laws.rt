@@ -1,11 +1,13 @@
 //! Laws of the definitions, and what holds of every sound program.
 
-ghost use Rattle.std.specs.Prelude.{◌≡◌, ◌↔◌, IsTrue, List, is_some};
+ghost use Rattle.std.specs.Prelude.{◌≡◌, ◌↔◌, Bool, IsTrue, List, is_some};
 ghost use Rattle.fort_tree.specs.declared.choice.Mode.{Mode};
+ghost use Rattle.fort_tree.specs.declared.place.Place.{Place};
 ghost use Rattle.fort_tree.specs.declared.unit.File.{File};
 ghost use Rattle.claw_meaning.specs.Plain.{plain_file};
 ghost use Rattle.claw_meaning.specs.Scope.{module_gives};
 ghost use Rattle.claw_meaning.specs.Syntax.{Text, Program as Plain};
+ghost use Rattle.sound_programs.specs.Faults.{Found, FirstFault, faults_of_calls, faults_of_kinds, faults_of_names};
 ghost use Rattle.sound_programs.specs.Forms.{Form};
 ghost use Rattle.sound_programs.specs.Nesting.{Nests};
 ghost use Rattle.sound_programs.specs.Laws.{CallsAreKnown, DeclaresOnce, HasNoCycle, HasNoFirstFault, KindsAgree, NamesAreKnown, SoundOrFaulty};
@@ -14,6 +16,7 @@ ghost use Rattle.sound_programs.specs.Placed.{Program, bare_program};
 ghost use Rattle.sound_programs.specs.Placing.{placed};
 ghost use Rattle.sound_programs.specs.Scopes.{is_known, origin};
 ghost use Rattle.sound_programs.specs.Sound.{IsNested, Sound};
+ghost use Rattle.sound_programs.specs.Within.{AllPass, FaultsPass};
 ghost use Rattle.sound_programs.specs.Writing.{file_of};
 
 /// The placed tree of a file, its places forgotten, is the plain tree on which its meaning is defined.
@@ -63,4 +66,13 @@ pub fn sound_or_a_first_fault()
 /// Where no fault leaves the kind of an expression open, it is the kind that the meaning gives it.
 pub fn known_kinds_are_those_of_the_meaning()
     ensures { KindsAgree }
+{}
+
+/// Each fault of names, calls and kinds stands at a place of the program's tree: a test that all places of the tree pass, the
+/// place of each fault passes, and so does that of the first.
+pub fn faults_stand_in_the_tree()
+    ensures names { (test : Place → Bool) (file : File) → AllPass test (placed file) → FaultsPass test (faults_of_names (placed file)) }
+    ensures calls { (test : Place → Bool) (file : File) → AllPass test (placed file) → FaultsPass test (faults_of_calls (placed file)) }
+    ensures kinds { (test : Place → Bool) (mode : Mode) (file : File) → AllPass test (placed file) → FaultsPass test (faults_of_kinds mode (placed file)) }
+    ensures first { (test : Place → Bool) (mode : Mode) (file : File) → AllPass test (placed file) → (fault : Found) → FirstFault mode file fault → IsTrue (test fault.at) }
 {}

@@ -9,9 +9,10 @@ mod rows;
 mod tests;
 
 pub use laws::{
-    chains_are_short, forms_nest_into_one_file, known_kinds_are_those_of_the_meaning,
-    names_of_sound_programs, placed_trees_are_of_files, placed_trees_are_plain_trees_with_places,
-    sound_or_a_first_fault, sound_programs_have_no_cycle, what_modules_give_has_an_origin,
+    chains_are_short, faults_stand_in_the_tree, forms_nest_into_one_file,
+    known_kinds_are_those_of_the_meaning, names_of_sound_programs, placed_trees_are_of_files,
+    placed_trees_are_plain_trees_with_places, sound_or_a_first_fault, sound_programs_have_no_cycle,
+    what_modules_give_has_an_origin,
 };
 pub use rows::{
     a_sound_program, faults_of_arguments_by_example, faults_of_calls_by_example,
