@@ -5,7 +5,7 @@ use Rattle.fort_tree.specs.declared.fault.Stop.TheVariants.{Fault as Fails, NoMe
 use Rattle.fort_tree.specs.declared.unit.File.{File}
 use Rattle.sound_programs.specs.Faults.{Found, IsLeast, faults_of_names}
 use Rattle.sound_programs.specs.Placing.{placed}
-use Rattle.fort_names.specs.FoundAt.{fault_of}
+use Rattle.sound_programs.specs.Reported.{fault_of}
 
 -- the first fault of names of the program, or refused memory
 abbrev pub HasNameStop : File → Stop → Type 0

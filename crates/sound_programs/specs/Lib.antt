@@ -16,6 +16,7 @@ pub mod ArgumentFaults
 pub mod Forms
 pub mod Nesting
 pub mod Faults
+pub mod Reported
 pub mod Sound
 pub mod Writing
 pub mod SmallPrograms

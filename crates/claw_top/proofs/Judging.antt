@@ -1,0 +1,33 @@
+-- Faults of the names and calls of a program stand in the files of its lines.
+use Rattle.std.proofs.Common.{◌≡◌, ℕ, ◌<◌, List, [], inl, inr, sym, subst}
+use Rattle.fort_tree.specs.declared.choice.Mode.TheVariants.{Source}
+use Rattle.fort_tree.specs.declared.fault.Fault.{Fault}
+use Rattle.fort_tree.specs.declared.fault.Stop.{Stop}
+use Rattle.fort_tree.specs.declared.fault.Stop.TheVariants.{Fault as Fails, NoMemory}
+use Rattle.fort_tree.specs.declared.statement.Line.{Line}
+use Rattle.fort_tree.specs.declared.unit.File.{File}
+use Rattle.sound_programs.specs.Faults.{Found, FirstFault, of_names, of_calls, faults_of_names}
+use Rattle.sound_programs.specs.Placing.{placed}
+use Rattle.sound_programs.proofs.FaultsWithin.{at_first_fault}
+use Rattle.fort_units.specs.Places.{InFiles}
+use Rattle.fort_units.specs.Program.{IsProgram}
+use Rattle.fort_units.proofs.TreePlaces.{program_in_files}
+use Rattle.name_faults.specs.Stops.{HasNameStop}
+use Rattle.call_graph.specs.Stops.{HasCallStop}
+use Rattle.claw_top.specs.Connected.{HasJudgedStop}
+use Rattle.claw_top.specs.Sources.{AreBefore, HaveProgramStop}
+
+pub stopped_by_names : (program : File) (stop : Stop) → HasNameStop program stop → HasJudgedStop program stop
+stopped_by_names program (Fails fault) (found, least, is) = (found, of_names least, is)
+stopped_by_names program NoMemory h = tt
+
+pub stopped_by_calls : (program : File) (stop : Stop) → faults_of_names (placed program) ≡ [] → HasCallStop program stop → HasJudgedStop program stop
+stopped_by_calls program (Fails fault) sound (found, least, is) = (found, of_calls sound least, is)
+stopped_by_calls program NoMemory sound h = tt
+
+pub stops_judged : (count : ℕ) (lines : List Line) (program : File) (stop : Stop) → AreBefore count lines → IsProgram lines program → HasJudgedStop program stop → HaveProgramStop count lines stop
+stops_judged count lines program (Fails fault) before spelled (found, first, is) = (
+  inr (record { file = program; spelled = spelled; found = found; first = first; is = is }),
+  subst (λ (f : Fault). f.place.file < count) (sym is) (at_first_fault (InFiles count) Source program (program_in_files count lines program before spelled) found first),
+)
+stops_judged count lines program NoMemory before spelled h = tt
