@@ -11,3 +11,9 @@ pub mod AddLaws
 pub mod WellFormed
 pub mod NestingPlaces
 pub mod LinePlaces
+pub mod ExpressionPlaces
+pub mod StatementPlaces
+pub mod DirectivePlaces
+pub mod BodyPlaces
+pub mod UnitPlaces
+pub mod TreePlaces

@@ -50,7 +50,7 @@ first_in : (n : ℕ) (at : Place) (tokens : List Token) → InFiles n at → All
 first_in n at [] h k = h
 first_in n at (t ∷ tokens) h k = k.0
 
-sentinel_in : (n : ℕ) (line : Line) → LineInFiles n line → InFiles n (sentinel_place line)
+pub sentinel_in : (n : ℕ) (line : Line) → LineInFiles n line → InFiles n (sentinel_place line)
 sentinel_in n line h = first_in n line.at line.tokens h.at (recursion_from_All (λ (t : Token). InFiles n t.at) line.tokens h.tokens)
 
 -- ---- items

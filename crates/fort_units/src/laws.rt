@@ -1,5 +1,5 @@
 //! Laws of the definitions, and small texts. The functions do nothing.
-ghost use Rattle.fort_units.specs.Places.{FirstFaultInFiles};
+ghost use Rattle.fort_units.specs.Places.{FirstFaultInFiles, ProgramInFiles};
 ghost use Rattle.fort_units.specs.Rows as rows;
 ghost use Rattle.fort_units.specs.Shown.{FaultlessNest};
 
@@ -21,4 +21,9 @@ pub fn nesting_by_example()
 /// Where all places of lines are in so many files, so is the place of their first fault, be it one line's own or one of nesting.
 pub fn faults_stand_in_files()
     ensures { FirstFaultInFiles }
+{}
+
+/// Where all places of lines are in so many files, so are all places in the tree of their program.
+pub fn programs_stand_in_files()
+    ensures { ProgramInFiles }
 {}

@@ -1,4 +1,7 @@
-use crate::{Item, file, forms_without_fault_nest, nesting_by_example, nesting_fault};
+use crate::{
+    Item, faults_stand_in_files, file, forms_without_fault_nest, nesting_by_example, nesting_fault,
+    programs_stand_in_files,
+};
 use fort_stmt::{ActionSort, Sort};
 use fort_tree::{Code, DirectiveWord, EndWord, Fault, Mode, Name, Place, Seq};
 use std::test::Fail;
@@ -40,6 +43,8 @@ fn is(first: Option<Fault>, code: Code) -> bool {
 
 #[test]
 fn laws_return(rt: HostRuntime) {
+    faults_stand_in_files();
+    programs_stand_in_files();
     forms_without_fault_nest();
     nesting_by_example();
 }
