@@ -1,6 +1,6 @@
 //! Stand-in.
 #![tactic(auto)]
 
-mod graph_of;
+mod calling;
 
-pub use graph_of::{Graph, graph};
+pub use calling::{Graph, graph_of};

@@ -1,5 +1,6 @@
 -- Faults of the names and calls of a program stand in the files of its lines.
-use Rattle.std.proofs.Common.{◌≡◌, ℕ, ◌<◌, List, [], inl, inr, sym, subst}
+use Rattle.std.proofs.Common.{◌≡◌, ℕ, ◌<◌, List, [], inl, inr, sym, subst, Ok, Err, IfOk}
+use Rattle.std.specs.declared.result.Result.{Result}
 use Rattle.fort_tree.specs.declared.choice.Mode.TheVariants.{Source}
 use Rattle.fort_tree.specs.declared.fault.Fault.{Fault}
 use Rattle.fort_tree.specs.declared.fault.Stop.{Stop}
@@ -10,7 +11,8 @@ use Rattle.sound_programs.specs.Faults.{Found, FirstFault, of_names, of_calls, f
 use Rattle.sound_programs.specs.Placing.{placed}
 use Rattle.sound_programs.proofs.FaultsWithin.{at_first_fault}
 use Rattle.fort_units.specs.Places.{InFiles}
-use Rattle.fort_units.specs.Program.{IsProgram}
+use Rattle.fort_units.specs.Program.{IsProgram, Answers}
+use Rattle.fort_units.proofs.LinePlaces.{first_fault_in_files}
 use Rattle.fort_units.proofs.TreePlaces.{program_in_files}
 use Rattle.name_faults.specs.Stops.{HasNameStop}
 use Rattle.call_graph.specs.Stops.{HasCallStop}
@@ -31,3 +33,13 @@ stops_judged count lines program (Fails fault) before spelled (found, first, is)
   subst (λ (f : Fault). f.place.file < count) (sym is) (at_first_fault (InFiles count) Source program (program_in_files count lines program before spelled) found first),
 )
 stops_judged count lines program NoMemory before spelled h = tt
+
+-- ---- the answer of the reader
+
+pub spelled_by : (lines : List Line) (r : Result File Stop) → Answers lines r → IfOk r (IsProgram lines)
+spelled_by lines (Ok file) h = h
+spelled_by lines (Err stop) h = tt
+
+pub stops_read : (count : ℕ) (lines : List Line) (stop : Stop) → AreBefore count lines → Answers lines (Err stop) → HaveProgramStop count lines stop
+stops_read count lines (Fails fault) before h = (inl h, first_fault_in_files count lines fault before h)
+stops_read count lines NoMemory before h = tt

@@ -5,3 +5,4 @@ mod Refusing
 mod OneUnit
 mod Translating
 mod Counts
+mod Judging

@@ -17,11 +17,10 @@ use Rattle.sound_programs.specs.Forms.{Form}
 use Rattle.sound_programs.specs.Nesting.{Nests_from, no_more, module_first, unit_first, a_module, subroutine, function}
 use Rattle.column_scalars.proofs.MemberCases.{contains_none}
 use Rattle.fort_units.specs.declared.item.Item.{Item}
-use Rattle.fort_units.specs.Program.{HasLines, no_line, a_line, mode_of, IsProgram, Answers}
+use Rattle.fort_units.specs.Program.{HasLines, no_line, a_line, mode_of, IsProgram}
 use Rattle.fort_units.specs.Places.{LineInFiles}
 use Rattle.scalar_units.specs.Unbuilt.{is_earlier, of_units, unbuilt, IsFirst}
-use Rattle.fort_units.proofs.LinePlaces.{first_fault_in_files}
-use Rattle.claw_top.specs.Sources.{AreBefore, HaveSyntaxStop, begins_after, begins_at}
+use Rattle.claw_top.specs.Sources.{AreBefore, begins_after, begins_at}
 
 begun-within : (count : ℕ) (at begin : Place) (lines : List Line) → begin.file < count → AreBefore count lines → (begins_after at begin lines).file < count
 begun-within count at begin [] here before = here
@@ -74,14 +73,3 @@ empty_built file h =
 pub unbuilt-within : (count : ℕ) (lines : List Line) (file : File) (at : Place) → AreBefore count lines → IsProgram lines file → IsFirst at (unbuilt file) → (begins_at at lines).file < count
 unbuilt-within count [] file at before h first = absurd (contains_none at (subst (λ (l : List Place). Contains l at) (empty_built file h) first.is_one))
 unbuilt-within count (line ∷ lines) file at before h first = begins-within count at line lines before
-
--- ---- the answer of the reader
-
-pub spelled-by : (lines : List Line) (r : Result File Stop) → Answers lines r → IfOk r (IsProgram lines)
-spelled-by lines (Ok file) h = h
-spelled-by lines (Err stop) h = tt
-
-pub stops-by : (count : ℕ) (lines : List Line) (r : Result File Stop) → AreBefore count lines → Answers lines r → IfErr r (HaveSyntaxStop count lines)
-stops-by count lines (Ok file) before h = tt
-stops-by count lines (Err (Fails fault)) before h = (h, first_fault_in_files count lines fault before h)
-stops-by count lines (Err NoMemory) before h = tt

@@ -30,6 +30,7 @@ use Rattle.fort_units.specs.Program.{IsProgram, mode_of}
 use Rattle.scalar_units.specs.Scalars.{IsScalarsUnit, OneUnit}
 use Rattle.scalar_units.specs.Unbuilt.{unbuilt}
 use Rattle.scalar_units.proofs.Built.{built_is}
+use Rattle.claw_top.specs.Connected.{IsConnected}
 use Rattle.claw_top.specs.Sources.{HaveLines}
 use Rattle.claw_top.proofs.OneUnit.{is_no_unit, is_one_unit}
 use Rattle.claw_top.specs.Translation.{AreSpelled, no_unit, one_unit, Translation}
@@ -38,12 +39,13 @@ use Rattle.claw_top.specs.Translation.{AreSpelled, no_unit, one_unit, Translatio
 no_such : {u : Unit} → None ≡ Some u → ⊥
 no_such e = absurd (false≢true (ap is_some e))
 
-pub empty_translation : (sources : List (List ℕ)) (file : File) → AreSpelled sources file → file ≡ no_unit → Translation sources (layout_of no_unit)
-empty_translation sources file spelled is = record {
+pub empty_translation : (sources : List (List ℕ)) (file : File) → AreSpelled sources file → IsConnected file → file ≡ no_unit → Translation sources (layout_of no_unit)
+empty_translation sources file spelled connected is = record {
   directed = no_unit;
   written = no_unit;
   wide = λ i x. false;
   spelled = subst (AreSpelled sources) is spelled;
+  connected = subst IsConnected is connected;
   layout = refl;
   interface = record { modules = refl; order = refl; count = refl; varying = λ i u e h. absurd (no_such e); units = λ i u t e f. absurd (no_such e) };
   erased = record { modules = refl; order = refl; units = λ i u t e f. absurd (no_such e); count = refl };
@@ -55,9 +57,9 @@ empty_translation sources file spelled is = record {
 carried : (P : Program → Program → Type 0) (u v w t : Unit) → u ≡ v → w ≡ t → P (program_of v) (program_of t) → P (program_of u) (program_of w)
 carried P u v w t e f h = subst (λ x. P (program_of x) (program_of w)) (sym e) (subst (λ x. P (program_of v) (program_of x)) (sym f) h)
 
-pub unit_translation : (sources : List (List ℕ)) (file : File) (u w : TreeUnit) → AreSpelled sources file → file ≡ one_unit u → IsScalarsUnit u →
+pub unit_translation : (sources : List (List ℕ)) (file : File) (u w : TreeUnit) → AreSpelled sources file → IsConnected file → file ≡ one_unit u → IsScalarsUnit u →
     plain_unit w ≡ widened (plain_unit u) → Translation sources (layout_of (one_unit w))
-unit_translation sources file u w spelled is read made =
+unit_translation sources file u w spelled connected is read made =
     let s : Scalars = read.scalars in
     let wide : plain_unit w ≡ wide_unit s = made ∙ (ap widened read.plain ∙ widened_is s) in
     let names : ℕ → Text → Bool = λ i x. is_listed s.dummies x in
@@ -66,6 +68,7 @@ unit_translation sources file u w spelled is read made =
       written = one_unit w;
       wide = names;
       spelled = subst (AreSpelled sources) is spelled;
+      connected = subst IsConnected is connected;
       layout = refl;
       interface = carried (λ p q. Interface p q names) (plain_unit u) (source_unit s) (plain_unit w) (wide_unit s) read.plain wide (interface_kept s read.is);
       erased = carried (λ p q. Erased p q names) (plain_unit u) (source_unit s) (plain_unit w) (wide_unit s) read.plain wide (erased_to_source s read.is);
@@ -100,16 +103,16 @@ one_of file u others built units = go (built_is file built).1
 pub dimension_of : (file : File) (u : TreeUnit) (others : List TreeUnit) → unbuilt file ≡ [] → file.units ≡ u ∷ others → HasDimension u
 dimension_of file u others built units = (one_of file u others built units).dimension
 
-pub made_of_none : (sources : List (List ℕ)) (lines : List Line) (file : File) → HaveLines sources lines → IsProgram lines file → unbuilt file ≡ [] → file.units ≡ [] →
+pub made_of_none : (sources : List (List ℕ)) (lines : List Line) (file : File) → HaveLines sources lines → IsProgram lines file → IsConnected file → unbuilt file ≡ [] → file.units ≡ [] →
     Translation sources (layout_of no_unit)
-made_of_none sources lines file are spelled built none =
-    empty_translation sources file (record { lines = lines; are = are; spelled = spelled }) (is_no_unit (mode_of lines) spelled.judged.forms file spelled.nests (built_is file built).0 none)
+made_of_none sources lines file are spelled connected built none =
+    empty_translation sources file (record { lines = lines; are = are; spelled = spelled }) connected (is_no_unit (mode_of lines) spelled.judged.forms file spelled.nests (built_is file built).0 none)
 
-pub made_of_one : (sources : List (List ℕ)) (lines : List Line) (file : File) (u w : TreeUnit) (others : List TreeUnit) → HaveLines sources lines → IsProgram lines file → unbuilt file ≡ [] →
+pub made_of_one : (sources : List (List ℕ)) (lines : List Line) (file : File) (u w : TreeUnit) (others : List TreeUnit) → HaveLines sources lines → IsProgram lines file → IsConnected file → unbuilt file ≡ [] →
     file.units ≡ u ∷ others → plain_unit w ≡ widened (plain_unit u) → Translation sources (layout_of (one_unit w))
-made_of_one sources lines file u w others are spelled built units made =
+made_of_one sources lines file u w others are spelled connected built units made =
     let one = one_of file u others built units in
-    unit_translation sources file u w (record { lines = lines; are = are; spelled = spelled })
+    unit_translation sources file u w (record { lines = lines; are = are; spelled = spelled }) connected
     (is_one_unit (mode_of lines) spelled.judged.forms file u spelled.nests (built_is file built).0 one.alone) one.scalars made
 
 pub no_items : (us : List TreeUnit) → length us ≡ 0 → us ≡ []

@@ -10,7 +10,7 @@ ghost use Rattle.claw_top.specs.Translation.{no_unit, one_unit};
 
 use crate::counting::counts;
 use crate::placing::begins_at;
-use call_graph::graph;
+use call_graph::graph_of;
 use claw_words::Command;
 use column_scalars::widen;
 use fort_lex::lines;
@@ -109,7 +109,7 @@ fn judge(alloc: Global, program: &File) -> Result<(), Stop>
     ensures stop { IfErr result (HasJudgedStop program.now) }
 {
     let symbols = names(alloc, program)?;
-    graph(alloc, program, &symbols)?;
+    graph_of(alloc, program, &symbols)?;
     Ok(())
 }
 

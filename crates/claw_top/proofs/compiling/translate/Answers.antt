@@ -18,12 +18,12 @@ widen-requires c = dimension_of c.args.program.now c.in-Some-split_first.unit.no
 pub returns-in_default-split_first-clause-compiles : goal.returns-in_default-split_first-clause-compiles
 returns-in_default-split_first-clause-compiles c =
     subst (λ file. Translation (bytes_of c.args.sources.now) (layout_of file)) (sym c.empty.ensures)
-    (made_of_none (bytes_of c.args.sources.now) c.args.lines.now c.args.program.now c.requires.lines c.requires.spelled c.in_default.ensures (sym c.items-2.ensures ∙ no_items c.items-2.result.now c.in_default-split_first.ensures.cases))
+    (made_of_none (bytes_of c.args.sources.now) c.args.lines.now c.args.program.now c.requires.lines c.requires.spelled c.requires.connected c.in_default.ensures (sym c.items-2.ensures ∙ no_items c.items-2.result.now c.in_default-split_first.ensures.cases))
 
 pub returns-clause-compiles : goal.returns-clause-compiles
 returns-clause-compiles c =
     subst (λ file. Translation (bytes_of c.args.sources.now) (layout_of file)) (sym c.in_ok-alone.ensures)
-    (made_of_one (bytes_of c.args.sources.now) c.args.lines.now c.args.program.now c.in-Some-split_first.unit.now c.in_ok-wide.wide _ c.requires.lines c.requires.spelled c.in_default.ensures
+    (made_of_one (bytes_of c.args.sources.now) c.args.lines.now c.args.program.now c.in-Some-split_first.unit.now c.in_ok-wide.wide _ c.requires.lines c.requires.spelled c.requires.connected c.in_default.ensures
     (sym c.items-2.ensures ∙ c.in-Some-split_first.ensures.cases.0) c.in_ok-wide.ensures)
 
 pub returns-in-Some-clause-in_files : goal.returns-in-Some-clause-in_files

@@ -14,7 +14,7 @@ pub struct Graph {
     order: Vec<usize>,
 }
 
-pub fn graph(alloc: Global, file: &File, symbols: &Symbols) -> Result<Graph, Stop>
+pub fn graph_of(alloc: Global, file: &File, symbols: &Symbols) -> Result<Graph, Stop>
     requires symbols { AreSymbolsOf file.now symbols.now }
     requires names { faults_of_names (placed file.now) ≡ [] }
     ensures sound { IfOk result (λ graph. faults_of_calls (placed file.now) ≡ []) }
