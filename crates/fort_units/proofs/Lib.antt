@@ -11,3 +11,10 @@ pub mod AddLaws
 pub mod WellFormed
 pub mod NestingPlaces
 pub mod LinePlaces
+pub mod Tails
+pub mod Passes
+pub mod Levels
+pub mod BodiesPass
+pub mod HeadsPass
+pub mod UnitsPass
+pub mod AllNest

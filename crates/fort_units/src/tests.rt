@@ -1,4 +1,7 @@
-use crate::{Item, file, forms_without_fault_nest, nesting_by_example, nesting_fault};
+use crate::{
+    Item, file, forms_that_nest_have_no_fault, forms_without_fault_nest,
+    lines_that_nest_are_a_program, nesting_by_example, nesting_fault,
+};
 use fort_stmt::{ActionSort, Sort};
 use fort_tree::{Code, DirectiveWord, EndWord, Fault, Mode, Name, Place, Seq};
 use std::test::Fail;
@@ -41,6 +44,8 @@ fn is(first: Option<Fault>, code: Code) -> bool {
 #[test]
 fn laws_return(rt: HostRuntime) {
     forms_without_fault_nest();
+    forms_that_nest_have_no_fault();
+    lines_that_nest_are_a_program();
     nesting_by_example();
 }
 
