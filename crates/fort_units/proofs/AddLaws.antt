@@ -131,7 +131,7 @@ gathers_more lines line g h have adds = record {
 -- ---- Lines without a fault
 
 -- the line stands in no continued statement
-abbrev plain : Item → Bool
+abbrev pub plain : Item → Bool
 plain (item.Directive at within w) = not within
 plain other = true
 

@@ -17,3 +17,10 @@ pub mod DirectivePlaces
 pub mod BodyPlaces
 pub mod UnitPlaces
 pub mod TreePlaces
+pub mod Tails
+pub mod Passes
+pub mod Levels
+pub mod BodiesPass
+pub mod HeadsPass
+pub mod UnitsPass
+pub mod AllNest

@@ -6,3 +6,5 @@ pub mod Places
 pub mod Program
 pub mod Rows
 pub mod Shown
+pub mod Depth
+pub mod Within

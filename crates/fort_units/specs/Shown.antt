@@ -1,5 +1,5 @@
 -- The forms of a text as the lines by which its nesting is judged, and what laws say of them.
-use Rattle.std.specs.Prelude.{◌≡◌, Bool, true, false, List, [], map, IsTrue}
+use Rattle.std.specs.Prelude.{◌≡◌, ℕ, ◌≤◌, Bool, true, false, List, [], ◌∷◌, map, IsTrue, ⊤}
 use Rattle.std.specs.List.{list_all}
 use Rattle.fort_tree.specs.declared.choice.Mode.{Mode}
 use Rattle.fort_tree.specs.declared.statement.Statement.{Statement, out-Statement}
@@ -10,7 +10,7 @@ use Rattle.sound_programs.specs.Nesting.{Nests}
 use Rattle.fort_units.specs.declared.item.Item.{Item}
 use Rattle.fort_units.specs.declared.item.Item.TheVariants as item
 use Rattle.fort_stmt.specs.Sort.{sort_of_level}
-use Rattle.fort_units.specs.Passing.{faults}
+use Rattle.fort_units.specs.Passing.{file_of, faults}
 
 abbrev pub item_of : Form → Item
 item_of (Says at level) = item.Statement at (sort_of_level level)
@@ -18,6 +18,11 @@ item_of (Directs d) = item.Directive d.at false d.word
 
 abbrev pub items_of : List Form → List Item
 items_of forms = map item_of forms
+
+-- The first form stands in this file or a later one, and none stands in an earlier file than the form before it.
+abbrev pub FilesFrom : ℕ → List Form → Type 0
+FilesFrom file [] = ⊤
+FilesFrom file (f ∷ fs) = (file ≤ file_of (item_of f)) × FilesFrom (file_of (item_of f)) fs
 
 -- What a form has of itself: a left side is a reference, a declaration one of the forms, a range has a value, and behind IF
 -- on one line stands an action.

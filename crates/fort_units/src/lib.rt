@@ -16,7 +16,8 @@ mod walk;
 pub use around::{Around, Block, Construct, Exits, Heading, Listing, Part, Waiting};
 pub use item::Item;
 pub use laws::{
-    faults_stand_in_files, forms_without_fault_nest, nesting_by_example, programs_stand_in_files,
+    faults_stand_in_files, forms_that_nest_have_no_fault, forms_without_fault_nest,
+    lines_that_nest_are_a_program, nesting_by_example, programs_stand_in_files,
 };
 pub use reading::file;
 pub use walk::nesting_fault;

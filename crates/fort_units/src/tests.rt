@@ -1,6 +1,6 @@
 use crate::{
-    Item, faults_stand_in_files, file, forms_without_fault_nest, nesting_by_example, nesting_fault,
-    programs_stand_in_files,
+    Item, faults_stand_in_files, file, forms_that_nest_have_no_fault, forms_without_fault_nest,
+    lines_that_nest_are_a_program, nesting_by_example, nesting_fault, programs_stand_in_files,
 };
 use fort_stmt::{ActionSort, Sort};
 use fort_tree::{Code, DirectiveWord, EndWord, Fault, Mode, Name, Place, Seq};
@@ -46,6 +46,8 @@ fn laws_return(rt: HostRuntime) {
     faults_stand_in_files();
     programs_stand_in_files();
     forms_without_fault_nest();
+    forms_that_nest_have_no_fault();
+    lines_that_nest_are_a_program();
     nesting_by_example();
 }
 
