@@ -27,7 +27,7 @@ fn bare_name(expr: &Expr) -> Option<Named>
 }
 
 /// The name before parentheses, where the expression has one.
-fn name_before_parenthesis(expr: &Expr) -> Option<Named>
+pub fn name_before_parenthesis(expr: &Expr) -> Option<Named>
     ensures { option_to_list result ≡ walks.name_before_parenthesis (placed_expr expr.now) }
 {
     match expr {
