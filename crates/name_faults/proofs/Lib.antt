@@ -1,0 +1,2 @@
+pub mod InFiles
+pub mod Parts
