@@ -7,3 +7,9 @@ pub mod Scoping
 pub mod Leasts
 pub mod FoundAt
 pub mod UsePlaces
+pub mod Reached
+pub mod Twice
+pub mod Circles
+pub mod TwoUses
+pub mod Using
+pub mod Declaring
