@@ -38,7 +38,7 @@ or_parts false b e = (refl, e)
 
 -- ---- inserting
 
-has_with : (names : List Text) (y x : Text) → has (with_name names y) x ≡ (has names x || bytes_eq x y)
+pub has_with : (names : List Text) (y x : Text) → has (with_name names y) x ≡ (has names x || bytes_eq x y)
 has_with names y x = go (has names y) refl (bytes_eq x y) refl
   where
     go : (b : Bool) → has names y ≡ b → (c : Bool) → bytes_eq x y ≡ c → has (if b then names else names ++ y ∷ []) x ≡ (has names x || c)

@@ -18,7 +18,7 @@ use Rattle.fort_names.specs.Leasts.{note, noted, places_at, clashes_of}
 
 -- ---- parts of a list, one after the other
 
-noted_append : (xs ys : List Found) (r : Option Found) → noted (xs ++ ys) r ≡ noted ys (noted xs r)
+pub noted_append : (xs ys : List Found) (r : Option Found) → noted (xs ++ ys) r ≡ noted ys (noted xs r)
 noted_append [] ys r = refl
 noted_append (x ∷ xs) ys r = noted_append xs ys (note r x)
 
@@ -68,7 +68,7 @@ test_first {A} test at a l = go (test a)
 
 -- ---- the order of faults
 
-abbrev Later : ℕ → ℕ → Bool → Bool
+abbrev pub Later : ℕ → ℕ → Bool → Bool
 Later a b rest = nat_lt a b || (nat_eq a b && rest)
 
 abbrev In_order : Found → Found → Bool
@@ -90,7 +90,7 @@ later_chain a b c x y z next = grind (arith, nat_tests)
 last_chain : (x y z : ℕ) → nat_lt x y ≡ true → nat_lt y z ≡ true → nat_lt x z ≡ true
 last_chain x y z = grind (arith, nat_tests)
 
-before_chain : (a b c : Found) → is_before a b ≡ true → is_before b c ≡ true → is_before a c ≡ true
+pub before_chain : (a b c : Found) → is_before a b ≡ true → is_before b c ≡ true → is_before a c ≡ true
 before_chain a b c e h =
     order_is a c
     ∙ later_chain a.at.file b.at.file c.at.file _ _ _
@@ -105,7 +105,7 @@ later_between a b c x y z next = grind (arith, nat_tests)
 last_between : (x y z : ℕ) → nat_lt x z ≡ true → nat_lt y z ≡ false → nat_lt x y ≡ true
 last_between x y z = grind (arith, nat_tests)
 
-before_between : (a b c : Found) → is_before a c ≡ true → is_before b c ≡ false → is_before a b ≡ true
+pub before_between : (a b c : Found) → is_before a c ≡ true → is_before b c ≡ false → is_before a b ≡ true
 before_between a b c e h =
     order_is a b
     ∙ later_between a.at.file b.at.file c.at.file _ _ _
@@ -116,10 +116,10 @@ before_between a b c e h =
 never_later : (a : ℕ) (r : Bool) → r ≡ false → Later a a r ≡ false
 never_later a r = grind (arith, nat_tests)
 
-never_less : (a : ℕ) → nat_lt a a ≡ false
+pub never_less : (a : ℕ) → nat_lt a a ≡ false
 never_less a = grind (arith, nat_tests)
 
-never_itself : (a : Found) → is_before a a ≡ false
+pub never_itself : (a : Found) → is_before a a ≡ false
 never_itself a = order_is a a ∙ never_later a.at.file _ (never_later a.at.line _ (never_later a.at.column _ (never_less (code_number a.code))))
 
 equal_numbers : (a : ℕ) → nat_eq a a ≡ true

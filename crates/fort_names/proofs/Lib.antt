@@ -12,3 +12,13 @@ pub mod IntentPlaces
 pub mod LinesAre
 pub mod HeadersAre
 pub mod Meant
+pub mod Members
+pub mod Reaching
+pub mod Seconds
+pub mod Circling
+pub mod CirclesAre
+pub mod Othering
+pub mod UsedSame
+pub mod Bucketing
+pub mod UsesAre
+pub mod DeclaredAre

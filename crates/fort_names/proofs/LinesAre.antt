@@ -33,7 +33,7 @@ both_or_none neither = refl
 both_or_none (both m n e d) = refl
 
 -- what the tables say that a module gives, it gives
-gives_is : (f : File) (m x : Text) → gives (shared_of f) m x ≡ is_given (bare_program (placed f)) m x
+pub gives_is : (f : File) (m x : Text) → gives (shared_of f) m x ≡ is_given (bare_program (placed f)) m x
 gives_is f m x = both_or_none (stored_same f x m) ∙ sym (given_has_origin (bare_program (placed f)) m x)
 
 none_is : {A : Type 0} (o : Option A) → is_none o ≡ not (is_some o)

@@ -1,5 +1,5 @@
 -- The least of faults that are noted in any order.
-use Rattle.std.specs.Prelude.{List, [], ◌∷◌, ◌++◌, map, Option, None, Some, Bool, ◌&&◌, not, is_some, is_none, flat_map, if◌then◌else◌}
+use Rattle.std.specs.Prelude.{List, [], ◌∷◌, ◌++◌, map, Option, None, Some, Bool, true, ◌&&◌, not, is_some, is_none, flat_map, if◌then◌else◌}
 use Rattle.std.specs.Str.{bytes_eq}
 use Rattle.fort_tree.specs.declared.place.Place.{Place}
 use Rattle.fort_tree.specs.declared.stmt.Named.{Named}
@@ -14,6 +14,11 @@ use Rattle.sound_programs.specs.Places.{is_earlier, later_of, where_place}
 abbrev pub note : Option Found → Found → Option Found
 note None fault = Some fault
 note (Some least) fault = Some (if is_before fault least then fault else least)
+
+-- noting this one changes the least so far
+abbrev pub changes : Option Found → Found → Bool
+changes None fault = true
+changes (Some least) fault = is_before fault least
 
 -- after these
 abbrev pub noted : List Found → Option Found → Option Found

@@ -10,3 +10,9 @@ pub mod UsePlaces
 pub mod Meanings
 pub mod Spots
 pub mod Sights
+pub mod Reached
+pub mod Twice
+pub mod Circles
+pub mod TwoUses
+pub mod Using
+pub mod Declaring

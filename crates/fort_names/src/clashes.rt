@@ -2,21 +2,16 @@
 ghost use Rattle.std.specs.Prelude.{◌≡◌, ◌++◌, map, IfOk, OnOk};
 ghost use Rattle.fort_tree.specs.declared.fault.Code.TheVariants.{E31};
 ghost use Rattle.sound_programs.specs.Faults.{found};
-ghost use Rattle.sound_programs.specs.Places.{later_of as later_place};
+ghost use Rattle.std.specs.Option.{option_to_list};
 ghost use Rattle.sound_programs.specs.DeclarationFaults.{clashes, seconds, two_dummies, two_units_or_modules};
 ghost use Rattle.sound_programs.specs.Placing.{placed, placed_unit};
 ghost use Rattle.sound_programs.specs.Scopes.{Of_unit};
 ghost use Rattle.fort_names.specs.Leasts.{noted, clashes_of, name_of_module, name_of_unit};
 
-use crate::least::{Least, is_earlier};
-use fort_tree::{Code, File, Module, Named, NoMemory, Place, Unit};
+use crate::doubles::{later_of, note_seconds};
+use crate::least::Least;
+use fort_tree::{Code, File, Module, Named, NoMemory, Unit};
 use std::alloc::Global;
-
-fn later_of(at: Place, other: Place) -> Place
-    ensures { result ≡ later_place at other }
-{
-    if is_earlier(at, other) { other } else { at }
-}
 
 fn note_clashes_of(least: &mut Least, one: &Named, others: &[Named])
     ensures { least.new ≡ noted (found E31 (clashes_of one.now others.now)) least.old }
@@ -39,25 +34,27 @@ pub fn note_clashes(least: &mut Least, named: &[Named], others: &[Named])
     }
 }
 
-/// Notes of each two of one name the later.
-pub fn note_seconds(least: &mut Least, named: &[Named])
-    ensures { least.new ≡ noted (found E31 (seconds named.now)) least.old }
+/// Notes a dummy and the result of one name.
+fn note_result(least: &mut Least, unit: &Unit)
+    ensures { least.new ≡ noted (found E31 (clashes unit.now.dummies (option_to_list unit.now.result))) least.old }
 {
-    for (i, one) in named.iter().enumerate() {
-        note_clashes_of(least, one, &named[i + 1..]);
-    }
-}
-
-/// Notes two dummies of one name, and a dummy and the result of one name.
-#[tactic(auto, using(crate::proofs::FirstOf::noted_places))]
-pub fn note_dummies(least: &mut Least, unit: &Unit)
-    ensures { least.new ≡ noted (found E31 (two_dummies (Of_unit (placed_unit unit.now)))) least.old }
-{
-    note_seconds(least, unit.dummies.items());
     match unit.result {
         None => note_clashes(least, unit.dummies.items(), &[]),
         Some(result_name) => note_clashes(least, unit.dummies.items(), &[result_name]),
     }
+}
+
+/// Notes two dummies of one name, and a dummy and the result of one name.
+///
+/// # Errors
+/// `NoMemory` only where memory was refused.
+#[tactic(auto, using(crate::proofs::FirstOf::noted_places))]
+pub fn note_dummies(alloc: Global, least: &mut Least, unit: &Unit) -> Result<(), NoMemory>
+    ensures { OnOk result (least.new ≡ noted (found E31 (two_dummies (Of_unit (placed_unit unit.now)))) least.old) }
+{
+    let _firsts = note_seconds(alloc, least, unit.dummies.items())?;
+    note_result(least, unit);
+    Ok(())
 }
 
 fn headers(alloc: Global, modules: &[Module], units: &[Unit]) -> Result<Vec<Named>, NoMemory>
@@ -87,6 +84,6 @@ pub fn note_headers(alloc: Global, least: &mut Least, file: &File) -> Result<(),
     ensures { OnOk result (least.new ≡ noted (found E31 (two_units_or_modules (placed file.now))) least.old) }
 {
     let names = headers(alloc, file.modules.items(), file.units.items())?;
-    note_seconds(least, names.as_slice());
+    let _firsts = note_seconds(alloc, least, names.as_slice())?;
     Ok(())
 }

@@ -3,7 +3,7 @@ ghost use Rattle.std.specs.Prelude.{◌≡◌, None};
 ghost use Rattle.sound_programs.specs.Faults.{found, is_before as before_test};
 ghost use Rattle.sound_programs.specs.Places.{is_earlier as earlier_test, same_place as same_test, where_place};
 ghost use Rattle.std.specs.Option.{option_map};
-ghost use Rattle.fort_names.specs.Leasts.{note as note_one, noted};
+ghost use Rattle.fort_names.specs.Leasts.{note as note_one, noted, changes as changes_least};
 ghost use Rattle.fort_names.specs.FoundAt.{found_of};
 
 use fort_tree::{Code, Place};
@@ -84,6 +84,16 @@ impl Least {
         ensures { self.new ≡ note_one self.old (record { code = code; at = place }) }
     {
         self.first = lesser(self.first, At { code, place });
+    }
+
+    /// Whether it would be the least fault, so that noting it changes anything.
+    pub fn changes(&self, code: Code, place: Place) -> bool
+        ensures { result ≡ changes_least self.now (record { code = code; at = place }) }
+    {
+        match self.first {
+            None => true,
+            Some(least) => is_before(At { code, place }, least),
+        }
     }
 
     /// Notes one more where it holds.

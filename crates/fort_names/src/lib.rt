@@ -3,6 +3,10 @@
 
 mod clashes;
 mod columns;
+mod cycles;
+mod declarations;
+mod double_uses;
+mod doubles;
 mod entity;
 mod firsts;
 mod homes;
@@ -20,10 +24,14 @@ mod symbols;
 mod table;
 #[cfg(test)]
 mod tests;
+mod used_names;
 mod uses;
 
+pub use clashes::{note_clashes, note_dummies, note_headers};
 pub use columns::is_named;
-pub use clashes::{note_clashes, note_dummies, note_headers, note_seconds};
+pub use cycles::note_cycles;
+pub use declarations::{note_declarations, note_declared_twice, note_module_faults};
+pub use doubles::note_seconds;
 pub use entity::{Entity, Home, Sort};
 pub use firsts::Firsts;
 pub use homes::Declared;
