@@ -1,2 +1,3 @@
 pub mod InFiles
 pub mod Parts
+mod AllNoted

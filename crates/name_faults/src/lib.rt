@@ -3,9 +3,11 @@
 #![tactic(auto)]
 
 mod calls;
+mod loops;
 mod naming;
 mod values;
 
 pub use calls::note_unit_faults;
+pub use loops::note_loops;
 pub use naming::names;
 pub use values::note_undeclared;
