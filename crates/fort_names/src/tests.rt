@@ -1,7 +1,10 @@
 //! Each public function once.
 
-use crate::{Home, Least, NameSet, Sort, nothing_where_nothing_is_seen, symbols_of};
-use fort_tree::{Code, Decl, File, Kind, Module, Name, NoMemory, Place, Seq, Unit};
+use crate::{
+    Home, Least, NameSet, Shared, Sort, note_declarations, nothing_where_nothing_is_seen,
+    symbols_of,
+};
+use fort_tree::{Code, Decl, File, Kind, Module, Name, NoMemory, Place, Seq, Unit, Use};
 use std::alloc::Global;
 use std::test::Fail;
 
@@ -122,5 +125,49 @@ fn the_least_fault(rt: HostRuntime) -> Result<(), Fail> {
     let first = least.first().ok_or("none")?;
     assert_eq!(rt; first.code, Code::E30);
     assert_eq!(rt; first.place, AT);
+    Ok(())
+}
+
+fn use_line(alloc: Global, name: Name) -> Result<Seq<Use>, NoMemory> {
+    let mut lines = Seq::new(alloc);
+    lines.push(Use {
+        name,
+        only: None,
+        at: AT,
+    })?;
+    Ok(lines)
+}
+
+fn first_fault(alloc: Global, file: &File) -> Result<Option<Code>, NoMemory> {
+    let shared = Shared::of(alloc, file)?;
+    let mut least = Least::new();
+    note_declarations(alloc, &mut least, &shared, file)?;
+    match least.first() {
+        None => Ok(None),
+        Some(fault) => Ok(Some(fault.code)),
+    }
+}
+
+/// A module `mo` with a declaration and a unit of these names; the unit uses the module of the third.
+fn using_file(alloc: Global, shared: Name, name: Name, used: Name) -> Result<File, Fail> {
+    let mut file = small_file(alloc, named(b"mo")?, shared, name, named(b"k")?)?;
+    let mut last = file.units.pop().ok_or("no unit")?;
+    last.uses = use_line(alloc, used)?;
+    file.units.push(last)?;
+    Ok(file)
+}
+
+#[test]
+fn faults_of_declarations(rt: HostRuntime) -> Result<(), Fail> {
+    let rows: [(&[u8], &[u8], &[u8], Option<Code>); 4] = [
+        (b"n", b"s", b"mo", None),
+        (b"s", b"s", b"mo", Some(Code::E31)),
+        (b"k", b"s", b"mo", Some(Code::E31)),
+        (b"n", b"s", b"zz", Some(Code::E34)),
+    ];
+    for (shared, name, used, expected) in rows {
+        let file = using_file(rt.alloc(), named(shared)?, named(name)?, named(used)?)?;
+        assert_eq!(rt; first_fault(rt.alloc(), &file)?, expected);
+    }
     Ok(())
 }
