@@ -46,7 +46,7 @@ has_with names y x = go (has names y) refl (bytes_eq x y) refl
     go true h false e = sym (or_false (has names x))
     go false h c e = any_append (bytes_eq x) names (y ∷ []) ∙ ap (λ a. has names x || a) (or_false (bytes_eq x y) ∙ e)
 
-has_inserted : (names xs : List Text) (x : Text) → has (inserted names xs) x ≡ (has names x || list_any (bytes_eq x) xs)
+pub has_inserted : (names xs : List Text) (x : Text) → has (inserted names xs) x ≡ (has names x || list_any (bytes_eq x) xs)
 has_inserted names [] x = sym (or_false (has names x))
 has_inserted names (y ∷ ys) x =
     has_inserted (with_name names y) ys x ∙ ap (λ a. a || list_any (bytes_eq x) ys) (has_with names y x) ∙ or_group (has names x) (bytes_eq x y) (list_any (bytes_eq x) ys)

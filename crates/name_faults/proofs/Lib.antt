@@ -1,3 +1,4 @@
 pub mod InFiles
 pub mod Parts
 mod AllNoted
+pub mod LoopsAre

@@ -1,3 +1,5 @@
 pub mod References
 pub mod Undeclared
 pub mod Stops
+pub mod Passing
+pub mod LoopSteps

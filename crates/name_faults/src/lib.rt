@@ -1,10 +1,15 @@
-//! The faults of names of a program: names that are used and not declared, names that are called or referred to and are no unit, and all of them, of which the
-//! first is told.
+//! The faults of names of a program: names that are used and not declared, names that are called or referred to and are no unit, variables of DOs; and all faults of
+//! names, of which the first is told.
 #![tactic(auto)]
 
 mod calls;
+mod loop_names;
+mod loop_steps;
 mod loops;
 mod naming;
+mod passed;
+#[cfg(test)]
+mod tests;
 mod values;
 
 pub use calls::note_unit_faults;
