@@ -6,8 +6,9 @@ pub mod Tabled
 pub mod Given
 pub mod Covering
 pub mod Fitting
-pub mod Sight
+pub mod Seeing
 pub mod FirstOf
 pub mod IntentPlaces
 pub mod LinesAre
 pub mod HeadersAre
+pub mod Meant

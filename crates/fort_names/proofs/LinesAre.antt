@@ -25,7 +25,7 @@ use Rattle.fort_names.specs.UsePlaces.{line_places, use_places, unit_uses, modul
 use Rattle.fort_names.proofs.Tabled.{number_is}
 use Rattle.fort_names.proofs.Given.{Same, neither, both}
 use Rattle.fort_names.proofs.Covering.{stored_same}
-use Rattle.fort_names.proofs.Sight.{some_module}
+use Rattle.fort_names.proofs.Seeing.{some_module}
 use Rattle.fort_names.proofs.FirstOf.{noted_places}
 
 both_or_none : {f : File} {x : Text} {o : Option Text} {n : Option ℕ} → Same f x o n → is_some n ≡ is_some o

@@ -7,3 +7,6 @@ pub mod Scoping
 pub mod Leasts
 pub mod FoundAt
 pub mod UsePlaces
+pub mod Meanings
+pub mod Spots
+pub mod Sights

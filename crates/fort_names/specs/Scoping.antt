@@ -14,6 +14,7 @@ use Rattle.fort_names.specs.declared.symbols.Symbols.{Symbols}
 use Rattle.fort_names.specs.Entities.{entity_in_unit, entity_in_module}
 use Rattle.fort_names.specs.Tables.{table_of, columns_of}
 use Rattle.fort_names.specs.Finding.{found}
+use Rattle.fort_names.specs.Sharing.{shared_of}
 
 -- the number of the first module that has the name of the module of this number
 abbrev pub host_number : List tree_module.Module → List Text → Option ℕ → Option ℕ
@@ -46,6 +47,7 @@ pub record ModuleScopes (s : Shared) (ms : List tree_module.Module) (cs : List S
 
 -- In the scope of each unit and module there is found under each name just the entity that it is there.
 pub record AreSymbolsOf (f : File) (s : Symbols) : Type 0 where
+  pub shared : s.shared.value ≡ shared_of f
   pub unit_count : length s.units.items ≡ length f.units
   pub module_count : length s.modules.items ≡ length f.modules
   pub of_units : (n : ℕ) (u : tree_unit.Unit) (c : Scope) → slice_get f.units n ≡ Some u → slice_get s.units.items n ≡ Some c → (x : Text) → found c x ≡ entity_in_unit f u x

@@ -61,7 +61,8 @@ fn declares_scalar_in(decl: &Decl) -> bool
     is_in(&decl.intent) && !has_dimensions(decl.shape.items())
 }
 
-fn has_dimensions(shape: &[Bound]) -> bool
+/// Whether a shape has a dimension.
+pub fn has_dimensions(shape: &[Bound]) -> bool
     ensures { result ≡ units.has_dimensions (map plain_bound shape.now) }
 {
     match shape {
@@ -70,7 +71,8 @@ fn has_dimensions(shape: &[Bound]) -> bool
     }
 }
 
-fn is_in(intent: &Option<Intent>) -> bool
+/// Whether it is INTENT(IN).
+pub fn is_in(intent: &Option<Intent>) -> bool
     ensures { result ≡ units.is_intent_in intent.now }
 {
     match intent {

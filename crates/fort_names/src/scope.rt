@@ -50,7 +50,8 @@ fn origin(shared: &Shared, uses: &[Use], host: Option<usize>, name: &Name) -> Op
     }
 }
 
-fn find_outside<'a>(
+/// The entity that USE lines and the module around give under the name, or else the external unit or the module of the name.
+pub fn find_outside<'a>(
     shared: &'a Shared,
     uses: &[Use],
     host: Option<usize>,

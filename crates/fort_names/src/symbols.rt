@@ -14,6 +14,7 @@ use std::rc::Rc;
 /// The scopes of the units and modules of a file.
 #[derive(Drop)]
 pub struct Symbols {
+    shared: Rc<Shared>,
     units: Vec<Scope>,
     modules: Vec<Scope>,
 }
@@ -100,6 +101,7 @@ pub fn symbols_of(alloc: Global, file: &File) -> Result<Symbols, NoMemory>
     let unit_list = unit_scopes(alloc, modules, &shared, file.units.items())?;
     let module_list = module_scopes(alloc, &shared, modules)?;
     Ok(Symbols {
+        shared,
         units: unit_list,
         modules: module_list,
     })
@@ -107,6 +109,16 @@ pub fn symbols_of(alloc: Global, file: &File) -> Result<Symbols, NoMemory>
 
 impl Symbols {
     ghost use Rattle.std.specs.Prelude.{◌≡◌, ◌<◌, length, Some, slice_get};
+    ghost use Rattle.fort_tree.specs.declared.unit.File as file_type;
+    ghost use Rattle.fort_names.specs.Sharing.{shared_of};
+
+    /// What all the scopes share.
+    pub fn shared(&self) -> &Shared
+        ensures is { result.now ≡ self.now.shared.value }
+        ensures of_file { (f : file_type.File) → AreSymbolsOf f self.now → result.now ≡ shared_of f }
+    {
+        &self.shared
+    }
 
     /// The scope of the unit of this number in the file.
     pub fn scope(&self, unit: usize) -> &Scope

@@ -1,4 +1,4 @@
-use Rattle.fort_names.proofs.Sight.{unit_seen, module_seen}
+use Rattle.fort_names.proofs.Seeing.{unit_seen, module_seen}
 use Rattle.fort_names.proofs.laws.nothing_where_nothing_is_seen.Goals as goal
 
 -- src/laws.rt

@@ -112,7 +112,7 @@ module _ (f : File) (x : Text) (own : Text → Option Entity) where
 
 -- ---- units
 
-host_same : (f : File) (x : Text) (host : Option ℕ)
+pub host_same : (f : File) (x : Text) (host : Option ℕ)
     → Same f x (origin_of_host (bare_program (placed f)) (module_at (bare_program (placed f)) host) x)
     (option_and_then (at_number (row_of (shared_of f) x)) (host_number f.modules (declared_of f).names host))
 host_same f x None = neither
@@ -134,11 +134,11 @@ unit_declares f u x =
 abbrev found_with : Own → Shared → List Use → Option ℕ → Text → Option Entity
 found_with own s uses host x = or_other (own_found own s x) (found_outside s uses host x)
 
-pub unit_sight : (f : File) (u : tree_unit.Unit) (c : Scope) → IsUnitScope f.modules (shared_of f) u c → (x : Text) → found c x ≡ entity_in_unit f u x
-unit_sight f u c is x =
-    (λ i. found_with (is.own i) (is.shared i) (is.uses i) (is.host i) x)
-    ∙ ap (λ o. or_other o (found_outside (shared_of f) u.uses (host_number f.modules (declared_of f).names u.host) x)) (decl_found home.Local (columns_of (Some u)) u.decls x)
-    ∙ sym (here_first f x (in_unit u) (entity_in (bare_program (placed f)) (Of_unit (placed_unit u)) x)
+-- what is found in the tables of the unit's scope
+pub unit_form : (f : File) (u : tree_unit.Unit) (x : Text)
+    → or_other (in_unit u x) (found_outside (shared_of f) u.uses (host_number f.modules (declared_of f).names u.host) x) ≡ entity_in_unit f u x
+unit_form f u x =
+    sym (here_first f x (in_unit u) (entity_in (bare_program (placed f)) (Of_unit (placed_unit u)) x)
     (seen_outside (origin_outside (bare_program (placed f)) (Of_unit (placed_unit u)) x) (entity_in (bare_program (placed f)) (Of_unit (placed_unit u)) x)
     (seen_in_files (unit_within (bare_program (placed f)) None x) (module_named (placed f) x)))
     (found_outside (shared_of f) u.uses (host_number f.modules (declared_of f).names u.host) x)
@@ -146,6 +146,12 @@ unit_sight f u c is x =
     (origin_outside (bare_program (placed f)) (Of_unit (placed_unit u)) x) (origin_found (shared_of f) u.uses (host_number f.modules (declared_of f).names u.host) x)
     (same_or (same_lines f x (row_of (shared_of f) x) (origin (bare_program (placed f))) (stored_same f x) u.uses) (host_same f x u.host)))
     (is_declared (placed f) (Of_unit (placed_unit u)) x) (sym (unit_declares f u x)))
+
+pub unit_sight : (f : File) (u : tree_unit.Unit) (c : Scope) → IsUnitScope f.modules (shared_of f) u c → (x : Text) → found c x ≡ entity_in_unit f u x
+unit_sight f u c is x =
+    (λ i. found_with (is.own i) (is.shared i) (is.uses i) (is.host i) x)
+    ∙ ap (λ o. or_other o (found_outside (shared_of f) u.uses (host_number f.modules (declared_of f).names u.host) x)) (decl_found home.Local (columns_of (Some u)) u.decls x)
+    ∙ unit_form f u x
 
 pub unit_seen : (f : File) (u : tree_unit.Unit) (x : Text) → is_some (entity_in_unit f u x) ≡ is_seen (seen (placed f) (Of_unit (placed_unit u)) x)
 unit_seen f u x =
@@ -206,8 +212,9 @@ module_seen f n m x at =
 
 -- ---- all scopes of a file
 
-of_this_file : (f : File) (sy : Symbols) → UnitScopes f.modules (shared_of f) f.units sy.units.items → ModuleScopes (shared_of f) f.modules sy.modules.items → AreSymbolsOf f sy
-of_this_file f sy us ms = record {
+of_this_file : (f : File) (sy : Symbols) → sy.shared.value ≡ shared_of f → UnitScopes f.modules (shared_of f) f.units sy.units.items → ModuleScopes (shared_of f) f.modules sy.modules.items → AreSymbolsOf f sy
+of_this_file f sy same us ms = record {
+  shared = same;
   unit_count = fits_length (λ n. IsUnitScope f.modules (shared_of f)) 0 f.units sy.units.items us.each;
   module_count = fits_length (IsModuleScope (shared_of f)) 0 f.modules sy.modules.items ms.each;
   of_units = λ n u c at found_at. unit_sight f u c (fits_at (λ k. IsUnitScope f.modules (shared_of f)) 0 f.units sy.units.items n u c us.each at found_at);
@@ -216,10 +223,10 @@ of_this_file f sy us ms = record {
       module_sight f n m c at (subst (λ k. IsModuleScope (shared_of f) k m c) e (fits_at (IsModuleScope (shared_of f)) 0 f.modules sy.modules.items n m c ms.each at found_at));
 }
 
-pub symbols_are : (f : File) (ms : List tree_module.Module) (us : List tree_unit.Unit) (s : Shared) (sy : Symbols) → ms ≡ f.modules → us ≡ f.units → s ≡ shared_of f
+pub symbols_are : (f : File) (ms : List tree_module.Module) (us : List tree_unit.Unit) (s : Shared) (sy : Symbols) → ms ≡ f.modules → us ≡ f.units → s ≡ shared_of f → sy.shared.value ≡ s
     → UnitScopes ms s us sy.units.items → ModuleScopes s ms sy.modules.items → AreSymbolsOf f sy
-symbols_are f ms us s sy same_modules same_units same_shared of_units of_modules =
-    of_this_file f sy
+symbols_are f ms us s sy same_modules same_units same_shared kept of_units of_modules =
+    of_this_file f sy (kept ∙ same_shared)
     (subst (λ a. UnitScopes f.modules a f.units sy.units.items) same_shared
     (subst (λ a. UnitScopes f.modules s a sy.units.items) same_units (subst (λ a. UnitScopes a s us sy.units.items) same_modules of_units)))
     (subst (λ a. ModuleScopes a f.modules sy.modules.items) same_shared (subst (λ a. ModuleScopes s a sy.modules.items) same_modules of_modules))
