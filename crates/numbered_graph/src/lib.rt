@@ -8,7 +8,7 @@ mod reverse;
 mod row;
 mod search;
 
-pub use depth::depths;
+pub use depth::{depth_of, depths};
 pub use numbers::distinct;
 pub use peeled::peel;
 pub use reverse::reversed;
