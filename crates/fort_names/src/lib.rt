@@ -37,7 +37,7 @@ pub use firsts::Firsts;
 pub use homes::Declared;
 pub use intents::{first_intent_fault, note_intents};
 pub use laws::nothing_where_nothing_is_seen;
-pub use least::{At, Least};
+pub use least::{At, Least, is_earlier};
 pub use meaning::Meaning;
 pub use name_set::NameSet;
 pub use rows::origins;

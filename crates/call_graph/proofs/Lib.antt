@@ -1,0 +1,7 @@
+pub mod Named
+pub mod Earliests
+pub mod Cycles
+pub mod Added
+pub mod Differing
+pub mod Noting
+pub mod Graphing

@@ -1,0 +1,5 @@
+pub mod Referring
+pub mod Earliest
+pub mod Calling
+pub mod Adding
+pub mod CallGraphs

@@ -1,0 +1,5 @@
+pub mod Graphs
+pub mod Peeling
+pub mod Turning
+pub mod Searching
+pub mod Deepness
