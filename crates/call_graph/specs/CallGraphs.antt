@@ -1,14 +1,12 @@
 -- The call graph of a file without faults of calls.
 use Rattle.std.specs.Prelude.{◌≡◌, ℕ, true, cond, nat_lt, List, [], ◌∷◌, map, length, Some, slice_get}
-use Rattle.fort_tree.specs.declared.fault.Stop.{Stop}
-use Rattle.fort_tree.specs.declared.fault.Stop.TheVariants as stop
 use Rattle.fort_tree.specs.declared.unit.File.{File}
 use Rattle.fort_tree.specs.declared.unit.Unit as tree_unit
 use Rattle.claw_meaning.specs.Syntax.{Text}
 use Rattle.fort_names.specs.NameLists.{with_name}
 use Rattle.numbered_graph.specs.Graphs.{Rows, row, times, is_behind, IsGraph}
 use Rattle.sound_programs.specs.CallFaults.{referrals_of}
-use Rattle.sound_programs.specs.Faults.{Found, faults_of_calls, IsLeast}
+use Rattle.sound_programs.specs.Faults.{faults_of_calls}
 use Rattle.sound_programs.specs.Placed.{bare_program}
 use Rattle.sound_programs.specs.Placing.{placed, placed_unit}
 use Rattle.call_graph.specs.Referring.{unit_names, name_at}
@@ -40,8 +38,3 @@ pub record IsCallGraph (f : File) (g : CallGraph) : Type 0 where
 pub record IsGraphOf (f : File) (g : CallGraph) : Type 0 where
   pub no_fault : faults_of_calls (placed f) ≡ []
   pub graph : IsCallGraph f g
-
--- the least of the faults, or memory was refused
-abbrev pub IsStopBy : List Found → Stop → Type 0
-IsStopBy faults (stop.Fault fault) = IsLeast faults (record { code = fault.code; at = fault.place })
-IsStopBy faults stop.NoMemory = Unit {0}

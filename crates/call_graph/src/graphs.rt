@@ -3,7 +3,8 @@ ghost use Rattle.std.specs.Prelude.{◌≡◌, [], IfOk, IfErr};
 ghost use Rattle.fort_names.specs.Scoping.{AreSymbolsOf};
 ghost use Rattle.sound_programs.specs.Faults.{faults_of_calls, faults_of_names};
 ghost use Rattle.sound_programs.specs.Placing.{placed};
-ghost use Rattle.call_graph.specs.CallGraphs.{IsGraphOf, IsStopBy};
+ghost use Rattle.sound_programs.specs.Reported.{IsStopBy};
+ghost use Rattle.call_graph.specs.CallGraphs.{IsGraphOf};
 
 use crate::calls::{Calls, calls_of};
 use crate::faults::first_fault;

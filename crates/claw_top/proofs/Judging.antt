@@ -7,23 +7,22 @@ use Rattle.fort_tree.specs.declared.fault.Stop.{Stop}
 use Rattle.fort_tree.specs.declared.fault.Stop.TheVariants.{Fault as Fails, NoMemory}
 use Rattle.fort_tree.specs.declared.statement.Line.{Line}
 use Rattle.fort_tree.specs.declared.unit.File.{File}
-use Rattle.sound_programs.specs.Faults.{Found, FirstFault, of_names, of_calls, faults_of_names}
+use Rattle.sound_programs.specs.Faults.{of_names, of_calls, faults_of_names, faults_of_calls}
+use Rattle.sound_programs.specs.Reported.{IsStopBy}
 use Rattle.sound_programs.specs.Placing.{placed}
 use Rattle.sound_programs.proofs.FaultsWithin.{at_first_fault}
 use Rattle.fort_units.specs.Places.{InFiles}
 use Rattle.fort_units.specs.Program.{IsProgram, Answers}
 use Rattle.fort_units.proofs.LinePlaces.{first_fault_in_files}
 use Rattle.fort_units.proofs.TreePlaces.{program_in_files}
-use Rattle.name_faults.specs.Stops.{HasNameStop}
-use Rattle.call_graph.specs.Stops.{HasCallStop}
 use Rattle.claw_top.specs.Connected.{HasJudgedStop}
 use Rattle.claw_top.specs.Sources.{AreBefore, HaveProgramStop}
 
-pub stopped_by_names : (program : File) (stop : Stop) → HasNameStop program stop → HasJudgedStop program stop
+pub stopped_by_names : (program : File) (stop : Stop) → IsStopBy (faults_of_names (placed program)) stop → HasJudgedStop program stop
 stopped_by_names program (Fails fault) (found, least, is) = (found, of_names least, is)
 stopped_by_names program NoMemory h = tt
 
-pub stopped_by_calls : (program : File) (stop : Stop) → faults_of_names (placed program) ≡ [] → HasCallStop program stop → HasJudgedStop program stop
+pub stopped_by_calls : (program : File) (stop : Stop) → faults_of_names (placed program) ≡ [] → IsStopBy (faults_of_calls (placed program)) stop → HasJudgedStop program stop
 stopped_by_calls program (Fails fault) sound (found, least, is) = (found, of_calls sound least, is)
 stopped_by_calls program NoMemory sound h = tt
 

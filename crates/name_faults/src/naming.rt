@@ -5,7 +5,7 @@ ghost use Rattle.sound_programs.specs.Placing.{placed};
 ghost use Rattle.fort_names.specs.FoundAt.{found_of};
 ghost use Rattle.fort_names.specs.Leasts.{noted};
 ghost use Rattle.fort_names.specs.Scoping.{AreSymbolsOf};
-ghost use Rattle.name_faults.specs.Stops.{HasNameStop};
+ghost use Rattle.sound_programs.specs.Reported.{IsStopBy};
 
 use crate::calls::note_unit_faults;
 use crate::loops::note_loops;
@@ -46,11 +46,11 @@ fn first_fault(alloc: Global, symbols: &Symbols, file: &File) -> Result<Option<A
 fn judge(alloc: Global, symbols: &Symbols, file: &File) -> Result<(), Stop>
     requires { AreSymbolsOf file.now symbols.now }
     ensures sound { IfOk result (λ done. faults_of_names (placed file.now) ≡ []) }
-    ensures stop { IfErr result (HasNameStop file.now) }
+    ensures stop { IfErr result (IsStopBy (faults_of_names (placed file.now))) }
 {
     match first_fault(alloc, symbols, file)? {
         None => Ok(()),
-        Some(fault) => Err(Stop::Fault(Fault::new(fault.code, fault.place))),
+        Some(at) => Err(Stop::Fault(Fault::new(at.code, at.place))),
     }
 }
 
@@ -62,7 +62,7 @@ fn judge(alloc: Global, symbols: &Symbols, file: &File) -> Result<(), Stop>
 pub fn names(alloc: Global, file: &File) -> Result<Symbols, Stop>
     ensures symbols { IfOk result (AreSymbolsOf file.now) }
     ensures sound { IfOk result (λ symbols. faults_of_names (placed file.now) ≡ []) }
-    ensures stop { IfErr result (HasNameStop file.now) }
+    ensures stop { IfErr result (IsStopBy (faults_of_names (placed file.now))) }
 {
     let symbols = symbols_of(alloc, file)?;
     judge(alloc, &symbols, file)?;

@@ -15,3 +15,9 @@ returns-in-None-clause-graph c =
     let sound : faults ≡ [] = subst (λ (o : Option At). MatchOption o (faults ≡ []) (λ at. IsLeast faults (found_of at))) c.in-None.is c.in_ok-at.ensures in
     subst (λ f. IsGraphOf f c.into_graph.result) c.in_ok-calls.ensures.file
     (is_graph_of calls c.in_ok-calls.ensures.calls sound c.into_graph.result c.into_graph.ensures.order c.into_graph.ensures.callees)
+
+pub returns-in-Some-clause-stop : goal.returns-in-Some-clause-stop
+returns-in-Some-clause-stop c =
+    let faults = faults_of_calls (placed c.in_ok-calls.calls.file.now) in
+    let least : IsLeast faults (found_of c.in-Some.at) = subst (λ (o : Option At). MatchOption o (faults ≡ []) (λ at. IsLeast faults (found_of at))) c.in-Some.is c.in_ok-at.ensures in
+    (found_of c.in-Some.at, subst (λ f. IsLeast (faults_of_calls (placed f)) (found_of c.in-Some.at)) c.in_ok-calls.ensures.file least, c.new.ensures)
