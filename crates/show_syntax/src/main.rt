@@ -5,7 +5,7 @@
 
 use fort_lex::lines;
 use fort_spell::report;
-use fort_tree::{Fault, File, Mode, NoMemory, Seq, Stop};
+use fort_tree::{Fault, Line, Mode, Seq, Stop};
 use fort_units::file;
 use outside::{DirShelf, FileList, MemSink, Numbers, Shelf};
 use std::alloc::{AllocError, Global};
@@ -84,30 +84,45 @@ fn print_flat(rt: &HostRuntime, text: &[u8]) -> io::Result<()> {
 fn print_fault(rt: &HostRuntime, fault: &Fault) -> io::Result<()> {
     let files = listed(rt.alloc())?;
     let mut put = sink(rt.alloc())?;
-    if report(fault, &files, &mut put).is_err() {
-        return print!(rt; "no room");
+    let is_listed = (fault.place.file as usize) < files.len();
+    if !is_listed || report(fault, &files, &mut put).is_err() {
+        return print!(rt; "no report");
     }
     print_flat(rt, put.text())
 }
 
-/// The program of a text.
-fn program_of(alloc: Global, text: &[u8]) -> Result<File, Stop> {
-    let mut all = Seq::new(alloc);
-    if text.len() > MOST_BYTES {
-        return Err(Stop::NoMemory);
+fn print_stop(rt: &HostRuntime, stop: Stop) -> io::Result<()> {
+    match stop {
+        Stop::Fault(fault) => print_fault(rt, &fault),
+        Stop::NoMemory => print!(rt; "no memory"),
     }
-    lines(alloc, 0, text, Mode::Source, &mut all)?;
-    file(alloc, &all)
+}
+
+fn print_program(rt: &HostRuntime, all: &Seq<Line>) -> io::Result<()> {
+    if all.len() > MOST_BYTES {
+        return print!(rt; "too long");
+    }
+    match file(rt.alloc(), all) {
+        Ok(program) => print!(rt; "units {}", program.units.len()),
+        Err(stop) => print_stop(rt, stop),
+    }
+}
+
+fn print_reading(rt: &HostRuntime, text: &[u8]) -> io::Result<()> {
+    if text.len() > MOST_BYTES {
+        return print!(rt; "too long");
+    }
+    let mut all = Seq::new(rt.alloc());
+    match lines(rt.alloc(), 0, text, Mode::Source, &mut all) {
+        Ok(()) => print_program(rt, &all),
+        Err(stop) => print_stop(rt, stop),
+    }
 }
 
 fn show(rt: &HostRuntime, number: u64, text: &[u8]) -> io::Result<()> {
     let text = unescaped(rt.alloc(), text)?;
     print!(rt; "{number} ")?;
-    match program_of(rt.alloc(), text.as_slice()) {
-        Ok(program) => print!(rt; "units {}", program.units.len())?,
-        Err(Stop::Fault(fault)) => print_fault(rt, &fault)?,
-        Err(Stop::NoMemory) => print!(rt; "no memory")?,
-    }
+    print_reading(rt, text.as_slice())?;
     println!(rt; "")
 }
 
