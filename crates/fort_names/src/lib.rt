@@ -22,8 +22,8 @@ mod table;
 mod tests;
 mod uses;
 
-pub use columns::is_named;
 pub use clashes::{note_clashes, note_dummies, note_headers, note_seconds};
+pub use columns::is_named;
 pub use entity::{Entity, Home, Sort};
 pub use firsts::Firsts;
 pub use homes::Declared;
