@@ -6,6 +6,6 @@ mod loop_steps;
 mod loops;
 mod passed;
 #[cfg(test)]
-mod tests;
+mod loop_tests;
 
 pub use loops::note_loops;
