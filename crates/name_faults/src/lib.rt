@@ -6,3 +6,6 @@ mod values;
 
 pub use calls::note_unit_faults;
 pub use values::note_undeclared;
+
+#[cfg(test)]
+mod tests;
