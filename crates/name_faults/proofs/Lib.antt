@@ -1,1 +1,3 @@
+pub mod InFiles
 pub mod LoopsAre
+pub mod Parts

@@ -1,4 +1,4 @@
-//! Each public function once.
+//! Faults of DO variables in a small file.
 
 use crate::note_loops;
 use fort_names::{Least, symbols_of};

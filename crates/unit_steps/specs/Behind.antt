@@ -10,6 +10,9 @@ use Rattle.unit_steps.specs.declared.step.Step.{Step}
 use Rattle.unit_steps.specs.declared.step.Step.TheVariants.{Assigns, Calls, Tests, Chooses, Repeats}
 use Rattle.unit_steps.specs.Acts.{cases_placed}
 
+abbrev pub expr_behind : Bor tree_expr.Expr → Expr
+expr_behind r = placed_expr r.now
+
 -- the expressions
 abbrev pub exprs : List (Bor tree_expr.Expr) → List Expr
 exprs list = map (λ r. placed_expr r.now) list

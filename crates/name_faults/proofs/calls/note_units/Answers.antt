@@ -1,0 +1,27 @@
+use Rattle.std.proofs.Common.{◌≡◌, ◌<◌, length, get_or, arith, refl, ◌∙◌, ap, Some}
+use Rattle.std.specs.List.{slice_get}
+use Rattle.std.proofs.lemmas.Option.{slice_get_read}
+use Rattle.fort_tree.specs.declared.fault.Code.TheVariants.{E35}
+use Rattle.claw_meaning.specs.Scope.{Entity}
+use Rattle.claw_meaning.specs.Syntax.{Text}
+use Rattle.sound_programs.specs.Faults.{found}
+use Rattle.sound_programs.specs.NameFaults.{in_each_step, unit_faults_in_step}
+use Rattle.sound_programs.specs.Placing.{placed_unit}
+use Rattle.fort_names.specs.Leasts.{noted, of_units}
+use Rattle.fort_names.proofs.FirstOf.{next_places}
+use Rattle.name_faults.specs.References.{faults_in_a_unit}
+use Rattle.name_faults.proofs.calls.note_units.Goals as goal
+
+-- src/calls.rt
+pub loop-number-preserved : goal.loop-number-preserved
+loop-number-preserved c =
+    let f = c.args.file.now in
+    let i = c.loop-number.number in
+    let u = c.unit-item.result in
+    let old = c.loop-number.least in
+    let within : i < length f.units = omega (arith, ap length c.items-unit-items.ensures) in
+    let is : u ≡ get_or f.units i u = c.unit-item.is ∙ ap (λ l. get_or l i u) c.items-unit-items.ensures in
+    let there : slice_get f.units i ≡ Some u = slice_get_read f.units (length f.units) i u refl within is in
+    next_places E35 (of_units (faults_in_a_unit f)) (faults_in_a_unit f) (λ a l. refl) f.units i u within is old c.note_unit.new.least
+    (c.in_ok-note_unit.ensures ∙ ap (λ (entity : Text → Entity). noted (found E35 (in_each_step (unit_faults_in_step entity) (placed_unit u))) old) (c.sight_of_unit-sight.ensures.means u there))
+    ∙ c.loop-number.invariant

@@ -1,0 +1,8 @@
+use Rattle.std.proofs.Common.{◌≡◌, ◌++◌, drop}
+use Rattle.std.specs.Prelude.{flat_map}
+use Rattle.sound_programs.specs.Walks as walks
+use Rattle.unit_steps.specs.Behind.{exprs}
+use Rattle.unit_steps.proofs.names.note_bare_names.Given as goal
+
+abbrev pub invariant-loop-expr : goal.invariant-loop-expr
+invariant-loop-expr l = l.into.items ++ flat_map walks.bare_name (exprs (drop l.expr-index l.list)) ≡ l.fn.into.items ++ flat_map walks.bare_name (exprs l.list)
