@@ -1,14 +1,11 @@
 //! What a name means.
 ghost use Rattle.std.specs.Prelude.{◌≡◌, map, is_some};
-ghost use Rattle.std.specs.Option.{option_copied, option_map};
+ghost use Rattle.std.specs.Option.{option_copied};
 ghost use Rattle.claw_meaning.specs.Plain.{plain_unit, plain_decl};
 ghost use Rattle.claw_meaning.specs.Scope.{decl_named};
 ghost use Rattle.sound_programs.specs.Kinding as kinding;
-ghost use Rattle.sound_programs.specs.Ranking.{rank_of_entity};
-ghost use Rattle.sound_programs.specs.Scopes as scopes;
-ghost use Rattle.fort_names.specs.Meanings.{meaning_of, name_of_home, variable_of, constant_of, unit_at, meant, decl_of, IsNumbered};
+ghost use Rattle.fort_names.specs.Meanings.{meaning_of, name_of_home, variable_of, constant_of, unit_at, meant, IsNumbered};
 
-use crate::columns::{has_dimensions, is_in};
 use crate::entity::{Entity, Home, Sort};
 use fort_tree::{Decl, File, Kind, Name, Unit};
 
@@ -94,7 +91,8 @@ fn declared_kind(decls: &[Decl], name: &Name) -> Option<Kind>
     None
 }
 
-fn result_kind(unit: &Unit) -> Option<Kind>
+/// The kind of a function's result; a SUBROUTINE has none.
+pub fn result_kind(unit: &Unit) -> Option<Kind>
     ensures { result ≡ kinding.kind_of_result (plain_unit unit.now).result (plain_unit unit.now) }
 {
     match &unit.result {
@@ -103,137 +101,8 @@ fn result_kind(unit: &Unit) -> Option<Kind>
     }
 }
 
-impl<'a> Meaning<'a> {
-    /// The kind of a variable, of a PARAMETER or of a function's result.
-    pub fn kind(&self) -> Option<Kind>
-        ensures { result ≡ kinding.kind_of_entity (meaning_of self.now) }
-    {
-        match self {
-            Meaning::Nothing => None,
-            Meaning::Variable(_, decl) => Some(decl.kind),
-            Meaning::Constant(decl) => Some(decl.kind),
-            Meaning::Unit(_, unit) => result_kind(unit),
-        }
-    }
-
-    /// The number of dimensions of a variable or a PARAMETER.
-    #[tactic(auto, using(crate::proofs::Places::length_map))]
-    pub fn rank(&self) -> usize
-        ensures { result ≡ rank_of_entity (meaning_of self.now) }
-    {
-        match self {
-            Meaning::Nothing => 0,
-            Meaning::Variable(_, decl) => decl.shape.len(),
-            Meaning::Constant(decl) => decl.shape.len(),
-            Meaning::Unit(_, _) => 0,
-        }
-    }
-
-    pub fn is_variable(&self) -> bool
-        ensures { result ≡ scopes.is_variable (meaning_of self.now) }
-    {
-        match self {
-            Meaning::Nothing => false,
-            Meaning::Variable(_, _) => true,
-            Meaning::Constant(_) => false,
-            Meaning::Unit(_, _) => false,
-        }
-    }
-
-    pub fn is_variable_or_constant(&self) -> bool
-        ensures { result ≡ scopes.is_variable_or_constant (meaning_of self.now) }
-    {
-        match self {
-            Meaning::Nothing => false,
-            Meaning::Variable(_, _) => true,
-            Meaning::Constant(_) => true,
-            Meaning::Unit(_, _) => false,
-        }
-    }
-
-    /// Whether it is a variable with dimensions.
-    pub fn is_array(&self) -> bool
-        ensures { result ≡ scopes.is_array (meaning_of self.now) }
-    {
-        match self {
-            Meaning::Nothing => false,
-            Meaning::Variable(_, decl) => has_dimensions(decl.shape.items()),
-            Meaning::Constant(_) => false,
-            Meaning::Unit(_, _) => false,
-        }
-    }
-
-    pub fn is_function(&self) -> bool
-        ensures { result ≡ scopes.is_function (meaning_of self.now) }
-    {
-        match self {
-            Meaning::Nothing => false,
-            Meaning::Variable(_, _) => false,
-            Meaning::Constant(_) => false,
-            Meaning::Unit(_, unit) => has_result(unit),
-        }
-    }
-
-    pub fn is_subroutine(&self) -> bool
-        ensures { result ≡ scopes.is_subroutine (meaning_of self.now) }
-    {
-        match self {
-            Meaning::Nothing => false,
-            Meaning::Variable(_, _) => false,
-            Meaning::Constant(_) => false,
-            Meaning::Unit(_, unit) => !has_result(unit),
-        }
-    }
-
-    /// Whether it is a variable that is declared INTENT(IN).
-    pub fn is_in_dummy(&self) -> bool
-        ensures { result ≡ scopes.is_in_dummy (meaning_of self.now) }
-    {
-        match self {
-            Meaning::Nothing => false,
-            Meaning::Variable(_, decl) => is_in(&decl.intent),
-            Meaning::Constant(_) => false,
-            Meaning::Unit(_, _) => false,
-        }
-    }
-
-    pub fn unit(&self) -> Option<&'a Unit>
-        ensures { option_map plain_unit (option_copied result) ≡ scopes.unit_of (meaning_of self.now) }
-    {
-        match self {
-            Meaning::Nothing => None,
-            Meaning::Variable(_, _) => None,
-            Meaning::Constant(_) => None,
-            Meaning::Unit(_, unit) => Some(unit),
-        }
-    }
-
-    /// The declaration of a variable or of a PARAMETER.
-    pub fn decl(&self) -> Option<&'a Decl>
-        ensures { option_map plain_decl (option_copied result) ≡ decl_of (meaning_of self.now) }
-    {
-        match self {
-            Meaning::Nothing => None,
-            Meaning::Variable(_, decl) => Some(decl),
-            Meaning::Constant(decl) => Some(decl),
-            Meaning::Unit(_, _) => None,
-        }
-    }
-
-    /// The name of the module that declares the variable, where that isn't the unit of the first name. The second is the variable's.
-    pub fn module_of(&self, unit: &Name, name: &Name) -> Option<Name>
-        ensures { option_map (λ m. (m, name.now)) result ≡ scopes.module_variable unit.now name.now (meaning_of self.now) }
-    {
-        match self {
-            Meaning::Nothing => None,
-            Meaning::Variable(home, _) => { if *home == *unit { None } else { Some(*home) } }
-            Meaning::Constant(_) => None,
-            Meaning::Unit(_, _) => None,
-        }
-    }
-}
-
-fn has_result(unit: &Unit) -> bool
+/// Whether the unit is a FUNCTION.
+pub fn has_result(unit: &Unit) -> bool
     ensures { result ≡ is_some (plain_unit unit.now).result }
 {
     match &unit.result {

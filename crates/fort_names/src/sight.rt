@@ -1,13 +1,11 @@
 //! A file seen from a unit or a module.
-use crate::meaning::{Meaning, meaning_of_entity};
+use crate::columns::{has_dimensions, is_in};
+use crate::meaning::{Meaning, has_result, meaning_of_entity, result_kind};
 use crate::shared::Shared;
 use crate::spot::{Spot, find_at};
 use crate::symbols::Symbols;
 use fort_tree::{Decl, File, Kind, Name, Unit};
 use std::marker::Model;
-
-/// What a meaning can hold: a function that has one as a value names these types.
-type Parts<'a> = Option<(&'a Decl, &'a Unit)>;
 
 /// A file seen from one of its units or modules. It says what each name means there, as the meaning of programs has it.
 #[derive(Drop)]
@@ -61,75 +59,111 @@ impl<'a> Sight<'a> {
     pub fn kind(&self, name: &Name) -> Option<Kind>
         ensures { result ≡ kind_of_entity (means self.now name.now) }
     {
-        let _parts: Parts = None;
-        self.meaning(name).kind()
+        match self.meaning(name) {
+            Meaning::Nothing => None,
+            Meaning::Variable(_, decl) => Some(decl.kind),
+            Meaning::Constant(decl) => Some(decl.kind),
+            Meaning::Unit(_, unit) => result_kind(unit),
+        }
     }
 
     /// The number of dimensions of a variable or a PARAMETER.
+    #[tactic(auto, using(crate::proofs::Places::length_map))]
     pub fn rank(&self, name: &Name) -> usize
         ensures { result ≡ rank_of_entity (means self.now name.now) }
     {
-        let _parts: Parts = None;
-        self.meaning(name).rank()
+        match self.meaning(name) {
+            Meaning::Nothing => 0,
+            Meaning::Variable(_, decl) => decl.shape.len(),
+            Meaning::Constant(decl) => decl.shape.len(),
+            Meaning::Unit(_, _) => 0,
+        }
     }
 
     pub fn is_variable(&self, name: &Name) -> bool
         ensures { result ≡ scopes.is_variable (means self.now name.now) }
     {
-        let _parts: Parts = None;
-        self.meaning(name).is_variable()
+        match self.meaning(name) {
+            Meaning::Nothing => false,
+            Meaning::Variable(_, _) => true,
+            Meaning::Constant(_) => false,
+            Meaning::Unit(_, _) => false,
+        }
     }
 
     pub fn is_variable_or_constant(&self, name: &Name) -> bool
         ensures { result ≡ scopes.is_variable_or_constant (means self.now name.now) }
     {
-        let _parts: Parts = None;
-        self.meaning(name).is_variable_or_constant()
+        match self.meaning(name) {
+            Meaning::Nothing => false,
+            Meaning::Variable(_, _) => true,
+            Meaning::Constant(_) => true,
+            Meaning::Unit(_, _) => false,
+        }
     }
 
     /// Whether it is a variable with dimensions.
     pub fn is_array(&self, name: &Name) -> bool
         ensures { result ≡ scopes.is_array (means self.now name.now) }
     {
-        let _parts: Parts = None;
-        self.meaning(name).is_array()
+        match self.meaning(name) {
+            Meaning::Nothing => false,
+            Meaning::Variable(_, decl) => has_dimensions(decl.shape.items()),
+            Meaning::Constant(_) => false,
+            Meaning::Unit(_, _) => false,
+        }
     }
 
     pub fn is_function(&self, name: &Name) -> bool
         ensures { result ≡ scopes.is_function (means self.now name.now) }
     {
-        let _parts: Parts = None;
-        self.meaning(name).is_function()
+        match self.meaning(name) {
+            Meaning::Nothing => false,
+            Meaning::Variable(_, _) => false,
+            Meaning::Constant(_) => false,
+            Meaning::Unit(_, unit) => has_result(unit),
+        }
     }
 
     pub fn is_subroutine(&self, name: &Name) -> bool
         ensures { result ≡ scopes.is_subroutine (means self.now name.now) }
     {
-        let _parts: Parts = None;
-        self.meaning(name).is_subroutine()
+        match self.meaning(name) {
+            Meaning::Nothing => false,
+            Meaning::Variable(_, _) => false,
+            Meaning::Constant(_) => false,
+            Meaning::Unit(_, unit) => !has_result(unit),
+        }
     }
 
     /// Whether it is a variable that is declared INTENT(IN).
     pub fn is_in_dummy(&self, name: &Name) -> bool
         ensures { result ≡ scopes.is_in_dummy (means self.now name.now) }
     {
-        let _parts: Parts = None;
-        self.meaning(name).is_in_dummy()
+        match self.meaning(name) {
+            Meaning::Nothing => false,
+            Meaning::Variable(_, decl) => is_in(&decl.intent),
+            Meaning::Constant(_) => false,
+            Meaning::Unit(_, _) => false,
+        }
     }
 
     /// The unit that the name is.
     pub fn unit(&self, name: &Name) -> Option<&'a Unit>
         ensures { option_map plain_unit (option_copied result) ≡ scopes.unit_of (means self.now name.now) }
     {
-        let _parts: Parts = None;
-        self.meaning(name).unit()
+        match self.meaning(name) {
+            Meaning::Nothing => None,
+            Meaning::Variable(_, _) => None,
+            Meaning::Constant(_) => None,
+            Meaning::Unit(_, unit) => Some(unit),
+        }
     }
 
     /// The number in the file of the unit that the name is.
     pub fn unit_number(&self, name: &Name) -> Option<usize>
         ensures { option_map plain_unit (option_and_then (slice_get (file_of self.now).units) result) ≡ scopes.unit_of (means self.now name.now) }
     {
-        let _parts: Parts = None;
         match self.meaning(name) {
             Meaning::Nothing => None,
             Meaning::Variable(_, _) => None,
@@ -142,16 +176,24 @@ impl<'a> Sight<'a> {
     pub fn decl(&self, name: &Name) -> Option<&'a Decl>
         ensures { option_map plain_decl (option_copied result) ≡ decl_of (means self.now name.now) }
     {
-        let _parts: Parts = None;
-        self.meaning(name).decl()
+        match self.meaning(name) {
+            Meaning::Nothing => None,
+            Meaning::Variable(_, decl) => Some(decl),
+            Meaning::Constant(decl) => Some(decl),
+            Meaning::Unit(_, _) => None,
+        }
     }
 
     /// The name of the module that declares the variable, where that isn't the unit of the first name. The second is the variable's.
     pub fn module_of(&self, unit: &Name, name: &Name) -> Option<Name>
         ensures { option_map (λ m. (m, name.now)) result ≡ scopes.module_variable unit.now name.now (means self.now name.now) }
     {
-        let _parts: Parts = None;
-        self.meaning(name).module_of(unit, name)
+        match self.meaning(name) {
+            Meaning::Nothing => None,
+            Meaning::Variable(home, _) => { if home == *unit { None } else { Some(home) } }
+            Meaning::Constant(_) => None,
+            Meaning::Unit(_, _) => None,
+        }
     }
 }
 

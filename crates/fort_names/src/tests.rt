@@ -171,3 +171,27 @@ fn faults_of_declarations(rt: HostRuntime) -> Result<(), Fail> {
     }
     Ok(())
 }
+
+#[test]
+fn what_names_mean(rt: HostRuntime) -> Result<(), Fail> {
+    let (host, n, s, k) = (named(b"mo")?, named(b"n")?, named(b"s")?, named(b"k")?);
+    let file = small_file(rt.alloc(), host, n, s, k)?;
+    let symbols = symbols_of(rt.alloc(), &file)?;
+    for number in 0..file.units.len() {
+        let sight = symbols.sight_of_unit(&file, number);
+        assert_eq!(rt; sight.kind(&k), Some(Kind::I4));
+        assert_eq!(rt; sight.rank(&n), 0);
+        assert_eq!(rt; sight.module_of(&s, &n), Some(host));
+        assert_eq!(rt; sight.module_of(&s, &k), None);
+        assert_eq!(rt; sight.unit_number(&s), Some(0));
+        assert!(rt; sight.is_variable(&n) && sight.is_variable_or_constant(&k));
+        assert!(rt; sight.is_subroutine(&s) && !sight.is_function(&s));
+        assert!(rt; !sight.is_array(&k) && !sight.is_in_dummy(&k));
+        assert!(rt; sight.unit(&s).is_some() && sight.decl(&s).is_none());
+    }
+    for number in 0..file.modules.len() {
+        let sight = symbols.sight_of_module(&file, number);
+        assert!(rt; sight.is_variable(&n) && !sight.is_variable(&k));
+    }
+    Ok(())
+}

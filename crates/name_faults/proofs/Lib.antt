@@ -1,4 +1,4 @@
 pub mod InFiles
+pub mod LoopsAre
 pub mod Parts
 mod AllNoted
-pub mod LoopsAre

@@ -1,4 +1,4 @@
+pub mod LoopSteps
+pub mod Passing
 pub mod References
 pub mod Undeclared
-pub mod Passing
-pub mod LoopSteps

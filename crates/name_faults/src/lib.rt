@@ -5,6 +5,8 @@
 mod calls;
 mod loop_names;
 mod loop_steps;
+#[cfg(test)]
+mod loop_tests;
 mod loops;
 mod naming;
 mod passed;

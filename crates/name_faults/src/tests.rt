@@ -1,103 +1,146 @@
-//! Each public function once.
+//! Units of one statement.
 
-use crate::note_loops;
+use crate::{note_undeclared, note_unit_faults};
 use fort_names::{Least, symbols_of};
-use fort_tree::{Decl, Expr, File, Head, Kind, Name, NoMemory, Place, Seq, Stmt, Unit};
+use fort_tree::{Code, Decl, Expr, File, Kind, Name, Named, NoMemory, Place, Seq, Stmt, Sub, Unit};
 use std::alloc::Global;
 use std::test::Fail;
 
-fn place(line: u32) -> Place {
-    Place {
-        file: 0,
-        line,
-        column: 1,
-    }
+const AT: Place = Place {
+    file: 0,
+    line: 1,
+    column: 1,
+};
+
+fn only<T: Drop>(alloc: Global, item: T) -> Option<Seq<T>> {
+    let mut list = Seq::new(alloc);
+    list.push(item).ok()?;
+    Some(list)
 }
 
-fn scalar(alloc: Global, name: Name) -> Decl {
-    Decl {
-        name,
-        at: place(1),
+fn variable(text: &[u8]) -> Option<Expr> {
+    Some(Expr::Ref(Name::read(text)?, None, AT))
+}
+
+/// The name with one argument, a number.
+fn element(alloc: Global, text: &[u8]) -> Option<Expr> {
+    let subs = only(alloc, Sub::One(Expr::Number(1, None, AT)))?;
+    Some(Expr::Ref(Name::read(text)?, Some(subs), AT))
+}
+
+fn assignment(left: Option<Expr>, right: Option<Expr>) -> Option<Stmt> {
+    let left = left?;
+    Some(Stmt::Assign {
+        at: AT,
+        left,
+        right: right?,
+    })
+}
+
+/// `a = a`
+fn declared(_alloc: Global) -> Option<Stmt> {
+    assignment(variable(b"a"), variable(b"a"))
+}
+
+/// `a = b`
+fn undeclared(_alloc: Global) -> Option<Stmt> {
+    assignment(variable(b"a"), variable(b"b"))
+}
+
+/// `abs = a`
+fn intrinsic_assigned(_alloc: Global) -> Option<Stmt> {
+    assignment(variable(b"abs"), variable(b"a"))
+}
+
+/// `a = abs(1)`
+fn intrinsic(alloc: Global) -> Option<Stmt> {
+    assignment(variable(b"a"), element(alloc, b"abs"))
+}
+
+/// `a = f(1)`
+fn nothing(alloc: Global) -> Option<Stmt> {
+    assignment(variable(b"a"), element(alloc, b"f"))
+}
+
+/// `a(1) = a`
+fn scalar_assigned(alloc: Global) -> Option<Stmt> {
+    assignment(element(alloc, b"a"), variable(b"a"))
+}
+
+/// `call a()`
+fn variable_called(alloc: Global) -> Option<Stmt> {
+    let name = Name::read(b"a")?;
+    Some(Stmt::Call {
+        at: AT,
+        name: Named { name, at: AT },
+        args: Seq::new(alloc),
+        forward: false,
+    })
+}
+
+/// A declaration of the scalar `a`.
+fn scalar(alloc: Global) -> Option<Decl> {
+    Some(Decl {
+        name: Name::read(b"a")?,
+        at: AT,
         kind: Kind::I4,
         intent: None,
         shape: Seq::new(alloc),
         value: None,
-    }
-}
-
-/// An assignment of 1 to the name.
-fn assignment(line: u32, name: Name) -> Stmt {
-    Stmt::Assign {
-        at: place(line),
-        left: Expr::Ref(name, None, place(line)),
-        right: Expr::Number(1, None, place(line)),
-    }
-}
-
-/// A DO loop over the first name in which 1 is assigned to the second.
-fn loop_with(alloc: Global, variable: Name, assigned: Name) -> Result<Stmt, NoMemory> {
-    let mut body = Seq::new(alloc);
-    body.push(assignment(3, assigned))?;
-    Ok(Stmt::Loop {
-        at: place(2),
-        head: Head {
-            var: variable,
-            at: place(2),
-            from: Expr::Number(1, None, place(2)),
-            to: Expr::Number(9, None, place(2)),
-            step: None,
-        },
-        body,
-        mark: None,
     })
 }
 
-fn unit_with(alloc: Global, local: Name, stmt: Stmt) -> Result<Unit, NoMemory> {
-    let mut decls = Seq::new(alloc);
-    decls.push(scalar(alloc, local))?;
-    let mut body = Seq::new(alloc);
-    body.push(stmt)?;
-    Ok(Unit {
-        name: local,
-        at: place(1),
+/// A unit that declares the scalar `a`, of these statements.
+fn unit(alloc: Global, body: Option<Seq<Stmt>>) -> Option<Unit> {
+    let decls = only(alloc, scalar(alloc)?)?;
+    Some(Unit {
+        name: Name::read(b"s")?,
+        at: AT,
         dummies: Seq::new(alloc),
         result: None,
         uses: Seq::new(alloc),
         decls,
         marks: Seq::new(alloc),
-        body,
+        body: body?,
         host: None,
     })
 }
 
-fn file_with(alloc: Global, unit: Unit) -> Result<File, NoMemory> {
-    let mut units = Seq::new(alloc);
-    units.push(unit)?;
-    Ok(File {
+fn file(alloc: Global, stmt: Option<Stmt>) -> Option<File> {
+    let body = only(alloc, stmt?);
+    let units = only(alloc, unit(alloc, body)?)?;
+    Some(File {
         modules: Seq::new(alloc),
         units,
         order: Seq::new(alloc),
     })
 }
 
-/// The line of the first fault of a loop over `i` in which 1 is assigned to the name.
-fn line_of_fault(alloc: Global, i: Name, assigned: Name) -> Result<Option<u32>, NoMemory> {
-    let unit = unit_with(alloc, i, loop_with(alloc, i, assigned)?)?;
-    let file = file_with(alloc, unit)?;
-    let symbols = symbols_of(alloc, &file)?;
+fn first_code(alloc: Global, file: &File) -> Result<Option<Code>, NoMemory> {
+    let symbols = symbols_of(alloc, file)?;
     let mut least = Least::new();
-    note_loops(alloc, &mut least, &symbols, &file)?;
+    note_undeclared(alloc, &mut least, &symbols, file)?;
+    note_unit_faults(alloc, &mut least, &symbols, file)?;
     match least.first() {
         None => Ok(None),
-        Some(fault) => Ok(Some(fault.place.line)),
+        Some(fault) => Ok(Some(fault.code)),
     }
 }
 
 #[test]
-fn assigned_in_its_loop(rt: HostRuntime) -> Result<(), Fail> {
-    let i = Name::read(b"i").ok_or("no name")?;
-    let x = Name::read(b"x").ok_or("no name")?;
-    assert_eq!(rt; line_of_fault(rt.alloc(), i, x)?, None);
-    assert_eq!(rt; line_of_fault(rt.alloc(), i, i)?, Some(3));
+fn faults_of_one_statement(rt: HostRuntime) -> Result<(), Fail> {
+    let rows: [(fn(Global) -> Option<Stmt>, Option<Code>); 7] = [
+        (declared, None),
+        (undeclared, Some(Code::E30)),
+        (intrinsic_assigned, Some(Code::E30)),
+        (intrinsic, None),
+        (nothing, Some(Code::E35)),
+        (scalar_assigned, Some(Code::E35)),
+        (variable_called, Some(Code::E35)),
+    ];
+    for (stmt, code) in rows {
+        let file = file(rt.alloc(), stmt(rt.alloc())).ok_or("no file")?;
+        assert_eq!(rt; first_code(rt.alloc(), &file)?, code);
+    }
     Ok(())
 }
