@@ -42,9 +42,11 @@ impl<'a> Calls<'a> {
             callees,
             order,
             depths,
+            heights,
         } = self;
         drop(references);
         drop(depths);
+        drop(heights);
         Graph { order, callees }
     }
 }
