@@ -24,7 +24,7 @@ use Rattle.sound_programs.proofs.SoundLaws.{left_empty, map_empty}
 use Rattle.call_graph.specs.declared.calls.Calls.{Calls}
 use Rattle.call_graph.specs.declared.reference.Reference.{Reference}
 use Rattle.call_graph.specs.Calling.{AreCalls, links_of}
-use Rattle.call_graph.specs.CallGraphs.{CallGraph, names_after, distinct_names, IsGraphOf}
+use Rattle.call_graph.specs.CallGraphs.{CallGraph, names_after, distinct_names, IsCallGraph}
 use Rattle.call_graph.specs.Referring.{unit_names, name_at, numbers, as_referral, listed, NamesDiffer, AreReferencesIn}
 use Rattle.call_graph.proofs.Cycles.{as_many, graph, many_callees, cycle_passes}
 use Rattle.call_graph.proofs.Named.{same_bool, row_of}
@@ -148,16 +148,13 @@ fit_at f n i u (v ∷ us) [] fit e = absurd fit
 fit_at f n zero u (v ∷ us) (r ∷ rs) fit e = let same : v ≡ u = cc in subst (λ w. AreReferencesIn f w r) same fit.0
 fit_at f n (suc i) u (v ∷ us) (r ∷ rs) fit e = fit_at f (n + 1) i u us rs fit.1 e
 
-pub is_graph_of : (c : Calls) → AreCalls c → faults_of_calls (placed c.file.now) ≡ [] → (g : CallGraph) → g.order ≡ c.order.items → g.callees ≡ c.callees.items → IsGraphOf c.file.now g
+pub is_graph_of : (c : Calls) → AreCalls c → faults_of_calls (placed c.file.now) ≡ [] → (g : CallGraph) → g.order ≡ c.order.items → g.callees ≡ c.callees.items → IsCallGraph c.file.now g
 is_graph_of c are sound g order callees = record {
-  no_fault = sound;
-  graph = record {
-    same_length = ap length callees ∙ many_callees c are;
-    within = subst IsGraph (sym callees) (graph c are);
-    callees = λ i u e. named i u (fit_at c.file.now 0 i u c.file.now.units c.references.items are.references.each e);
-    each_once = λ x. ap (times x) order ∙ once c are sound x (nat_lt x (length c.file.now.units)) refl;
-    behind = ap (λ rows. is_behind rows [] g.order) callees ∙ ap (is_behind c.callees.items []) order ∙ are.order.behind;
-  };
+  same_length = ap length callees ∙ many_callees c are;
+  within = subst IsGraph (sym callees) (graph c are);
+  callees = λ i u e. named i u (fit_at c.file.now 0 i u c.file.now.units c.references.items are.references.each e);
+  each_once = λ x. ap (times x) order ∙ once c are sound x (nat_lt x (length c.file.now.units)) refl;
+  behind = ap (λ rows. is_behind rows [] g.order) callees ∙ ap (is_behind c.callees.items []) order ∙ are.order.behind;
 }
   where
     named : (i : ℕ) (u : tree_unit.Unit) → AreReferencesIn c.file.now u (get_or c.references.items i []) → map (name_at (unit_names c.file.now)) (row g.callees i) ≡ distinct_names (map (λ r. r.to) (referrals_of (bare_program (placed c.file.now)) (placed_unit u)))

@@ -3,7 +3,8 @@ ghost use Rattle.std.specs.Prelude.{◌≡◌, [], IfOk, IfErr};
 ghost use Rattle.fort_names.specs.Scoping.{AreSymbolsOf};
 ghost use Rattle.sound_programs.specs.Faults.{faults_of_calls, faults_of_names};
 ghost use Rattle.sound_programs.specs.Placing.{placed};
-ghost use Rattle.call_graph.specs.CallGraphs.{IsGraphOf, IsStopBy};
+ghost use Rattle.call_graph.specs.CallGraphs.{IsCallGraph};
+ghost use Rattle.call_graph.specs.Stops.{HasCallStop};
 
 use crate::calls::{Calls, calls_of};
 use crate::faults::first_fault;
@@ -15,7 +16,7 @@ use std::marker::Model;
 
 /// For each unit of a file the units to which it refers, and an order of all units, by their numbers. Contracts see both as
 /// lists.
-#[derive(Drop)]
+#[derive(Debug, Drop)]
 pub struct Graph {
     order: Vec<usize>,
     callees: Vec<Row>,
@@ -60,8 +61,9 @@ impl<'a> Calls<'a> {
 pub fn graph_of(alloc: Global, file: &File, symbols: &Symbols) -> Result<Graph, Stop>
     requires symbols { AreSymbolsOf file.now symbols.now }
     requires names { faults_of_names (placed file.now) ≡ [] }
-    ensures graph { IfOk result (IsGraphOf file.now) }
-    ensures stop { IfErr result (IsStopBy (faults_of_calls (placed file.now))) }
+    ensures sound { IfOk result (λ graph. faults_of_calls (placed file.now) ≡ []) }
+    ensures graph { IfOk result (IsCallGraph file.now) }
+    ensures stop { IfErr result (HasCallStop file.now) }
 {
     let calls = calls_of(alloc, file, symbols)?;
     match first_fault(alloc, &calls)? {
