@@ -3,7 +3,6 @@ use Rattle.std.proofs.Common.{◌≡◌, ℕ, zero, suc, ◌+◌, ◌<◌, ◌�
 use Rattle.std.specs.List.{list_any}
 use Rattle.std.proofs.lemmas.Bool.{false≢true}
 use Rattle.fort_tree.specs.declared.place.Place.{Place}
-use Rattle.claw_meaning.specs.Syntax.{Text}
 use Rattle.numbered_graph.specs.Graphs.{row, stands, Way, here, onwards, LeadsToCycle, has_chain, IsGraph}
 use Rattle.numbered_graph.specs.Deepness.{depth_at}
 use Rattle.numbered_graph.proofs.Ways.{joined}
@@ -17,6 +16,7 @@ use Rattle.call_graph.specs.Earliest.{earliest}
 use Rattle.call_graph.specs.Referring.{unit_names, name_at, numbers, listed, callees_of, AreWithin}
 use Rattle.call_graph.proofs.Earliests.{earliest_append}
 use Rattle.call_graph.proofs.Named.{same_bool, linked, is_graph, chains_agree, way_if_led, led_if_way, cycle_if_led, led_if_cycle, link_passes, way_in, in_names}
+use Rattle.call_graph.proofs.Lists.{names_long}
 
 pub numbers_at : (refs : List Reference) (i : ℕ) (d : Reference) → i < length refs → stands (get_or refs i d).unit (numbers refs) ≡ true
 numbers_at [] i d h = absurd (omega (arith, h))
@@ -27,16 +27,9 @@ numbers_at (q ∷ refs) (suc i) d h = go (nat_eq (get_or refs i d).unit q.unit) 
     go true e = refl
     go false e = e
 
-length_names : {A : Type 0} (f : A → Text) (xs : List A) → length (map f xs) ≡ length xs
-length_names f [] = refl
-length_names f (x ∷ xs) = omega (arith, length_names f xs)
-
 module _ (c : Calls) (are : AreCalls c) where
-  names : List Text
-  names = unit_names c.file.now
-
   pub as_many : length (unit_names c.file.now) ≡ length c.file.now.units
-  as_many = length_names (λ u. u.name) c.file.now.units
+  as_many = names_long c.file.now.units
 
   within : AreWithin (length (unit_names c.file.now)) c.references.items
   within = subst (λ n. AreWithin n c.references.items) (sym as_many) are.references.are_within

@@ -29,6 +29,7 @@ use Rattle.call_graph.specs.Referring.{unit_names, name_at, numbers, as_referral
 use Rattle.call_graph.proofs.Cycles.{as_many, graph, many_callees, cycle_passes}
 use Rattle.call_graph.proofs.Named.{same_bool, row_of}
 use Rattle.call_graph.proofs.Noting.{referrals_are, calls_are}
+use Rattle.call_graph.proofs.Lists.{map_append}
 
 -- ---- each unit stands in the order
 
@@ -101,10 +102,6 @@ has_name names n x (y ∷ before) differ e h below =
     same = same_bool (bytes_eq (name_at names x) (name_at names y)) (nat_eq x y)
         (λ k. ap (λ z. nat_eq x z) (sym (differ.differ x y (omega (arith, h, e)) (omega (arith, below y (ap (λ b. b || stands y before) (itself y)), e)) k)) ∙ itself x)
         (λ k. (bytes_eq-Decides (name_at names x) (name_at names y)).1 (ap (name_at names) (same_number x y k)))
-
-map_append : {A B : Type 0} (f : A → B) (xs ys : List A) → map f (xs ++ ys) ≡ map f xs ++ map f ys
-map_append f [] ys = refl
-map_append f (x ∷ xs) ys = ap (λ l. f x ∷ l) (map_append f xs ys)
 
 names_once : (names : List Text) (n : ℕ) (before xs : List ℕ) → NamesDiffer names → n ≡ length names → ((y : ℕ) → stands y before ≡ true → y < n) → ((y : ℕ) → stands y xs ≡ true → y < n)
     → map (name_at names) (firsts_after before xs) ≡ names_after (map (name_at names) before) (map (name_at names) xs)
