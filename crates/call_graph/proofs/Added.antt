@@ -26,24 +26,7 @@ use Rattle.call_graph.specs.declared.reference.Reference.{Reference}
 use Rattle.call_graph.specs.Adding.{to_unit, named_referrals, is_function_name, function_referrals, step_referrals, Adds}
 use Rattle.call_graph.specs.Referring.{unit_names, name_at, numbers, as_referral, callees_of, NamesDiffer, AreWithin, AreReferencesIn, AreReferencesOf}
 use Rattle.call_graph.proofs.Named.{is_graph}
-
--- ---- lists
-
-flat_append : {A B : Type 0} (f : A → List B) (xs ys : List A) → flat_map f (xs ++ ys) ≡ flat_map f xs ++ flat_map f ys
-flat_append f [] ys = refl
-flat_append f (x ∷ xs) ys = ap (λ l. f x ++ l) (flat_append f xs ys) ∙ sym (append_assoc (f x) (flat_map f xs) (flat_map f ys))
-
-map_append : {A B : Type 0} (f : A → B) (xs ys : List A) → map f (xs ++ ys) ≡ map f xs ++ map f ys
-map_append f [] ys = refl
-map_append f (x ∷ xs) ys = ap (λ l. f x ∷ l) (map_append f xs ys)
-
-filter_append : {A : Type 0} (test : A → Bool) (xs ys : List A) → filter test (xs ++ ys) ≡ filter test xs ++ filter test ys
-filter_append test [] ys = refl
-filter_append test (x ∷ xs) ys = go (test x) (filter_append test xs ys)
-  where
-    go : (b : Bool) → filter test (xs ++ ys) ≡ filter test xs ++ filter test ys → cond b (x ∷ filter test (xs ++ ys)) (filter test (xs ++ ys)) ≡ cond b (x ∷ filter test xs) (filter test xs) ++ filter test ys
-    go true e = ap (λ l. x ∷ l) e
-    go false e = e
+use Rattle.call_graph.proofs.Lists.{flat_append, map_append, filter_append, names_long}
 
 -- ---- what is added
 
@@ -117,9 +100,6 @@ adds_step f entity from steps s a b c so_far new =
 -- ---- the referrals of the definition
 
 module _ (u : Unit) (entity : Text → Entity) where
-  of_site : Site → List Referral
-  of_site s = referral u s (unit_of (entity s.name.name))
-
   one_site : (s : Site) (o : Option plain.Unit) → referral u s o ≡ to_unit u.name s.name.at o
   one_site s None = refl
   one_site s (Some v) = refl
@@ -206,10 +186,6 @@ pub read_at : {A : Type 0} (xs : List A) (i : ℕ) (x : A) → i < length xs →
 read_at [] i x h e = absurd (omega (arith, h))
 read_at (y ∷ ys) zero x h e = ap Some (sym e)
 read_at (y ∷ ys) (suc i) x h e = read_at ys i x (omega (arith, h)) e
-
-names_long : (us : List tree_unit.Unit) → length (map (λ u. u.name) us) ≡ length us
-names_long [] = refl
-names_long (u ∷ us) = omega (arith, names_long us)
 
 pub graph_of : (f : File) (rows : List (List Reference)) → NamesDiffer (unit_names f) → AreReferencesOf f rows → IsGraph (callees_of rows)
 graph_of f rows differ are = is_graph (unit_names f) rows differ (subst (λ n. AreWithin n rows) (sym (names_long f.units)) are.are_within)

@@ -3,19 +3,20 @@ use Rattle.std.proofs.Common.{◌≡◌, ℕ, zero, suc, ◌+◌, ◌<◌, ◌�
 use Rattle.std.specs.List.{list_any}
 use Rattle.std.proofs.lemmas.Bool.{false≢true}
 use Rattle.fort_tree.specs.declared.place.Place.{Place}
-use Rattle.claw_meaning.specs.Syntax.{Text}
-use Rattle.numbered_graph.specs.Graphs.{row, stands, Way, here, LeadsToCycle, has_chain, IsGraph}
+use Rattle.numbered_graph.specs.Graphs.{row, stands, Way, here, onwards, LeadsToCycle, has_chain, IsGraph}
 use Rattle.numbered_graph.specs.Deepness.{depth_at}
+use Rattle.numbered_graph.proofs.Ways.{joined}
 use Rattle.numbered_graph.proofs.Times.{itself}
 use Rattle.sound_programs.specs.CallFaults.{link_of}
 use Rattle.sound_programs.specs.Links.{is_on_cycle, begins_chain, leads_to_cycle}
 use Rattle.call_graph.specs.declared.calls.Calls.{Calls}
 use Rattle.call_graph.specs.declared.reference.Reference.{Reference}
-use Rattle.call_graph.specs.Calling.{AreCalls, links_of, is_recursive, recursive_places, all_recursive, is_deep}
+use Rattle.call_graph.specs.Calling.{AreCalls, LiesOnNone, links_of, is_recursive, recursive_places, all_recursive, is_deep}
 use Rattle.call_graph.specs.Earliest.{earliest}
 use Rattle.call_graph.specs.Referring.{unit_names, name_at, numbers, listed, callees_of, AreWithin}
 use Rattle.call_graph.proofs.Earliests.{earliest_append}
 use Rattle.call_graph.proofs.Named.{same_bool, linked, is_graph, chains_agree, way_if_led, led_if_way, cycle_if_led, led_if_cycle, link_passes, way_in, in_names}
+use Rattle.call_graph.proofs.Lists.{names_long}
 
 pub numbers_at : (refs : List Reference) (i : ℕ) (d : Reference) → i < length refs → stands (get_or refs i d).unit (numbers refs) ≡ true
 numbers_at [] i d h = absurd (omega (arith, h))
@@ -26,16 +27,9 @@ numbers_at (q ∷ refs) (suc i) d h = go (nat_eq (get_or refs i d).unit q.unit) 
     go true e = refl
     go false e = e
 
-length_names : {A : Type 0} (f : A → Text) (xs : List A) → length (map f xs) ≡ length xs
-length_names f [] = refl
-length_names f (x ∷ xs) = omega (arith, length_names f xs)
-
 module _ (c : Calls) (are : AreCalls c) where
-  names : List Text
-  names = unit_names c.file.now
-
   pub as_many : length (unit_names c.file.now) ≡ length c.file.now.units
-  as_many = length_names (λ u. u.name) c.file.now.units
+  as_many = names_long c.file.now.units
 
   within : AreWithin (length (unit_names c.file.now)) c.references.items
   within = subst (λ n. AreWithin n c.references.items) (sym as_many) are.references.are_within
@@ -108,27 +102,32 @@ module _ (c : Calls) (are : AreCalls c) where
     pub recursive_is : (b : Bool) → IsTrue b ↔ Way c.callees.items r.unit unit → b ≡ is_recursive c unit r
     recursive_is b both = same_bool b (is_recursive c unit r) (λ e. recursive_if_way (both.0 e)) (λ e. both.1 (way_if_recursive e))
 
-    -- a cycle through both
-    unit_leads : is_recursive c unit r ≡ true → LeadsToCycle c.callees.items unit
-    unit_leads e = record { from = unit; to = r.unit; way = here; link = link; back = way_if_recursive e }
+    -- a reference from what lies on no cycle, or to it, lies on none
+    not_through_unit : LiesOnNone c.callees.items unit → is_recursive c unit r ≡ true → ⊥
+    not_through_unit off e = off.none r.unit link (way_if_recursive e)
 
-    callee_leads : is_recursive c unit r ≡ true → LeadsToCycle c.callees.items r.unit
-    callee_leads e = record { from = unit; to = r.unit; way = way_if_recursive e; link = link; back = way_if_recursive e }
-
-    led_of : (i : ℕ) → i < length c.file.now.units → LeadsToCycle c.callees.items i → leads_to_cycle (links_of c) (name_at (unit_names c.file.now) i) ≡ true
-    unfolding links_of
-    led_of i h l = led_if_cycle (unit_names c.file.now) c.references.items are.differ within i (named i h) (subst (λ rows. LeadsToCycle rows i) are.callees l)
-
-    pub not_recursive : (leads_to_cycle (links_of c) (name_at (unit_names c.file.now) unit) && leads_to_cycle (links_of c) (name_at (unit_names c.file.now) r.unit)) ≡ false → false ≡ is_recursive c unit r
-    not_recursive e = go (is_recursive c unit r) refl
+    back_to_callee : LiesOnNone c.callees.items r.unit → Way c.callees.items r.unit unit → ⊥
+    back_to_callee off way = go way link (λ y first rest. off.none y first (joined c.callees.items rest (onwards link here))) (λ same. off.none r.unit same here)
       where
-        both_true : (a b : Bool) → a ≡ true → b ≡ true → (a && b) ≡ true
-        both_true true b e h = h
-        both_true false b e h = absurd (false≢true e)
+        go : {a b : ℕ} → Way c.callees.items a b → stands a (row c.callees.items b) ≡ true → ((y : ℕ) → stands y (row c.callees.items a) ≡ true → Way c.callees.items y b → ⊥) → (stands a (row c.callees.items a) ≡ true → ⊥) → ⊥
+        go here around longer self = self around
+        go (onwards {y = y} first rest) around longer self = longer y first rest
 
-        go : (b : Bool) → is_recursive c unit r ≡ b → false ≡ b
-        go false k = refl
-        go true k = absurd (false≢true (sym e ∙ both_true _ _ (led_of unit unit_within (unit_leads k)) (led_of r.unit callee_within (callee_leads k))))
+    never : (b : Bool) → (b ≡ true → ⊥) → false ≡ b
+    never false off = refl
+    never true off = absurd (off refl)
+
+    pub off_at_unit : LiesOnNone c.callees.items unit → false ≡ is_recursive c unit r
+    off_at_unit off = never (is_recursive c unit r) (not_through_unit off)
+
+    pub off_at_callee : LiesOnNone c.callees.items r.unit → false ≡ is_recursive c unit r
+    off_at_callee off = never (is_recursive c unit r) (λ e. back_to_callee off (way_if_recursive e))
+
+  -- what has a depth lies on no cycle
+  pub off_by_depth : (x d : ℕ) → depth_at c.depths.items x ≡ Some d → LiesOnNone c.callees.items x
+  off_by_depth x d e = record {
+    none = λ y first way. are.order.none_on_cycle x (sym (are.depths.ordered x) ∙ ap is_some e) (record { from = x; to = y; way = here; link = first; back = way });
+  }
 
   -- ---- calls that are too deep
 

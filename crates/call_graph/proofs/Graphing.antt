@@ -24,11 +24,12 @@ use Rattle.sound_programs.proofs.SoundLaws.{left_empty, map_empty}
 use Rattle.call_graph.specs.declared.calls.Calls.{Calls}
 use Rattle.call_graph.specs.declared.reference.Reference.{Reference}
 use Rattle.call_graph.specs.Calling.{AreCalls, links_of}
-use Rattle.call_graph.specs.CallGraphs.{CallGraph, names_after, distinct_names, IsGraphOf}
+use Rattle.call_graph.specs.CallGraphs.{CallGraph, names_after, distinct_names, IsCallGraph}
 use Rattle.call_graph.specs.Referring.{unit_names, name_at, numbers, as_referral, listed, NamesDiffer, AreReferencesIn}
 use Rattle.call_graph.proofs.Cycles.{as_many, graph, many_callees, cycle_passes}
 use Rattle.call_graph.proofs.Named.{same_bool, row_of}
 use Rattle.call_graph.proofs.Noting.{referrals_are, calls_are}
+use Rattle.call_graph.proofs.Lists.{map_append}
 
 -- ---- each unit stands in the order
 
@@ -102,10 +103,6 @@ has_name names n x (y ∷ before) differ e h below =
         (λ k. ap (λ z. nat_eq x z) (sym (differ.differ x y (omega (arith, h, e)) (omega (arith, below y (ap (λ b. b || stands y before) (itself y)), e)) k)) ∙ itself x)
         (λ k. (bytes_eq-Decides (name_at names x) (name_at names y)).1 (ap (name_at names) (same_number x y k)))
 
-map_append : {A B : Type 0} (f : A → B) (xs ys : List A) → map f (xs ++ ys) ≡ map f xs ++ map f ys
-map_append f [] ys = refl
-map_append f (x ∷ xs) ys = ap (λ l. f x ∷ l) (map_append f xs ys)
-
 names_once : (names : List Text) (n : ℕ) (before xs : List ℕ) → NamesDiffer names → n ≡ length names → ((y : ℕ) → stands y before ≡ true → y < n) → ((y : ℕ) → stands y xs ≡ true → y < n)
     → map (name_at names) (firsts_after before xs) ≡ names_after (map (name_at names) before) (map (name_at names) xs)
 names_once names n before [] differ e below all = refl
@@ -148,16 +145,13 @@ fit_at f n i u (v ∷ us) [] fit e = absurd fit
 fit_at f n zero u (v ∷ us) (r ∷ rs) fit e = let same : v ≡ u = cc in subst (λ w. AreReferencesIn f w r) same fit.0
 fit_at f n (suc i) u (v ∷ us) (r ∷ rs) fit e = fit_at f (n + 1) i u us rs fit.1 e
 
-pub is_graph_of : (c : Calls) → AreCalls c → faults_of_calls (placed c.file.now) ≡ [] → (g : CallGraph) → g.order ≡ c.order.items → g.callees ≡ c.callees.items → IsGraphOf c.file.now g
+pub is_graph_of : (c : Calls) → AreCalls c → faults_of_calls (placed c.file.now) ≡ [] → (g : CallGraph) → g.order ≡ c.order.items → g.callees ≡ c.callees.items → IsCallGraph c.file.now g
 is_graph_of c are sound g order callees = record {
-  no_fault = sound;
-  graph = record {
-    same_length = ap length callees ∙ many_callees c are;
-    within = subst IsGraph (sym callees) (graph c are);
-    callees = λ i u e. named i u (fit_at c.file.now 0 i u c.file.now.units c.references.items are.references.each e);
-    each_once = λ x. ap (times x) order ∙ once c are sound x (nat_lt x (length c.file.now.units)) refl;
-    behind = ap (λ rows. is_behind rows [] g.order) callees ∙ ap (is_behind c.callees.items []) order ∙ are.order.behind;
-  };
+  same_length = ap length callees ∙ many_callees c are;
+  within = subst IsGraph (sym callees) (graph c are);
+  callees = λ i u e. named i u (fit_at c.file.now 0 i u c.file.now.units c.references.items are.references.each e);
+  each_once = λ x. ap (times x) order ∙ once c are sound x (nat_lt x (length c.file.now.units)) refl;
+  behind = ap (λ rows. is_behind rows [] g.order) callees ∙ ap (is_behind c.callees.items []) order ∙ are.order.behind;
 }
   where
     named : (i : ℕ) (u : tree_unit.Unit) → AreReferencesIn c.file.now u (get_or c.references.items i []) → map (name_at (unit_names c.file.now)) (row g.callees i) ≡ distinct_names (map (λ r. r.to) (referrals_of (bare_program (placed c.file.now)) (placed_unit u)))

@@ -7,11 +7,12 @@ use Rattle.std.proofs.lemmas.Slice.Eq.{bytes_eq-Decides}
 use Rattle.claw_meaning.specs.Syntax.{Text}
 use Rattle.numbered_graph.specs.Graphs.{row, stands, with_number, firsts_after, each_once, Way, here, onwards, LeadsToCycle, has_chain, IsGraph}
 use Rattle.numbered_graph.proofs.Times.{itself, stands_cases, stands_append, stands_last, append_cases}
-use Rattle.sound_programs.specs.CallFaults.{Referral, link_of}
-use Rattle.sound_programs.specs.Links.{Links, leads_within, leads, is_on_cycle, begins_chain, leads_to_cycle, Reaches}
+use Rattle.sound_programs.specs.CallFaults.{link_of}
+use Rattle.sound_programs.specs.Links.{leads_within, leads, is_on_cycle, begins_chain, leads_to_cycle, Reaches}
 use Rattle.sound_programs.proofs.Chains.{reached_within}
 use Rattle.call_graph.specs.declared.reference.Reference.{Reference}
 use Rattle.call_graph.specs.Referring.{name_at, numbers, as_referral, listed, callees_of, NamesDiffer, AreWithin}
+use Rattle.call_graph.proofs.Lists.{map_append}
 
 pub same_bool : (a b : Bool) → (a ≡ true → b ≡ true) → (b ≡ true → a ≡ true) → a ≡ b
 same_bool true b f g = sym (f refl)
@@ -29,9 +30,6 @@ or_left false b e = absurd (false≢true e)
 or_right : (a b : Bool) → b ≡ true → (a || b) ≡ true
 or_right true b e = refl
 or_right false b e = e
-
-any_behind : {A : Type 0} (test : A → Bool) (x : A) (xs : List A) → list_any test xs ≡ true → list_any test (x ∷ xs) ≡ true
-any_behind test x xs e = or_right (test x) (list_any test xs) e
 
 any_cases : {A : Type 0} (test : A → Bool) (xs ys : List A) → list_any test (xs ++ ys) ≡ true → (list_any test xs ≡ true) ⊎ (list_any test ys ≡ true)
 any_cases test [] ys e = inr e
@@ -139,17 +137,10 @@ row_of (r ∷ rs) (suc i) = row_of rs i
 -- ---- the links
 
 module _ (names : List Text) where
-  as_link : Text → ℕ → Text × Text
-  as_link from j = (from, name_at names j)
-
   -- of one unit
   from_one : (test : Text × Text → Bool) (from : Text) (refs : List Reference) → list_any test (map link_of (map (as_referral names from) refs)) ≡ list_any (λ j. test (from, name_at names j)) (numbers refs)
   from_one test from [] = refl
   from_one test from (r ∷ rs) = ap (λ b. test (from, name_at names r.unit) || b) (from_one test from rs)
-
-  map_append : (xs ys : List Referral) → map link_of (xs ++ ys) ≡ map link_of xs ++ map link_of ys
-  map_append [] ys = refl
-  map_append (x ∷ xs) ys = ap (λ l. link_of x ∷ l) (map_append xs ys)
 
   -- a link that passes a test
   record Found_link (test : Text × Text → Bool) (ns : List Text) (rows : List (List Reference)) : Type 0 where
@@ -163,7 +154,7 @@ module _ (names : List Text) where
   found_link test [] rows e = absurd (false≢true e)
   found_link test (n ∷ ns) [] e = absurd (false≢true e)
   found_link test (n ∷ ns) (r ∷ rs) e =
-      go (any_cases test (map link_of (map (as_referral names n) r)) (map link_of (listed names ns rs)) (ap (list_any test) (sym (map_append (map (as_referral names n) r) (listed names ns rs))) ∙ e)) (found_link test ns rs)
+      go (any_cases test (map link_of (map (as_referral names n) r)) (map link_of (listed names ns rs)) (ap (list_any test) (sym (map_append link_of (map (as_referral names n) r) (listed names ns rs))) ∙ e)) (found_link test ns rs)
     where
       first : Passing (λ j. test (n, name_at names j)) (numbers r) → Found_link test (n ∷ ns) (r ∷ rs)
       first p = record { from = 0; to = p.one; within = omega arith; there = p.there; passes = p.passes }
@@ -180,18 +171,15 @@ module _ (names : List Text) where
   link_passes test [] rows i j h there e = absurd (omega (arith, h))
   link_passes test (n ∷ ns) [] i j h there e = absurd (false≢true there)
   link_passes test (n ∷ ns) (r ∷ rs) zero j h there e =
-      ap (list_any test) (map_append (map (as_referral names n) r) (listed names ns rs))
+      ap (list_any test) (map_append link_of (map (as_referral names n) r) (listed names ns rs))
       ∙ any_front test (map link_of (map (as_referral names n) r)) (map link_of (listed names ns rs)) (from_one test n r ∙ passed (λ k. test (n, name_at names k)) (numbers r) j there e)
   link_passes test (n ∷ ns) (r ∷ rs) (suc i) j h there e =
-      ap (list_any test) (map_append (map (as_referral names n) r) (listed names ns rs))
+      ap (list_any test) (map_append link_of (map (as_referral names n) r) (listed names ns rs))
       ∙ any_back test (map link_of (map (as_referral names n) r)) (map link_of (listed names ns rs)) (link_passes test ns rs i j (omega (arith, h)) there e)
 
 -- ---- ways, cycles and chains
 
 module _ (names : List Text) (rows : List (List Reference)) (differ : NamesDiffer names) (are_within : AreWithin (length names) rows) where
-  links : Links
-  links = map link_of (listed names names rows)
-
   itself_named : (x : Text) → bytes_eq x x ≡ true
   itself_named x = (bytes_eq-Decides x x).1 refl
 

@@ -23,6 +23,7 @@ use Rattle.call_graph.specs.Calling.{AreCalls, links_of, is_recursive, recursive
 use Rattle.call_graph.specs.Earliest.{earliest}
 use Rattle.call_graph.specs.Referring.{unit_names, name_at, as_referral, listed, AreReferencesIn}
 use Rattle.call_graph.proofs.Earliests.{the_first_is}
+use Rattle.call_graph.proofs.Lists.{map_append, filter_append, names_long}
 
 -- ---- the referrals of the file
 
@@ -42,18 +43,6 @@ unfolding links_of
 calls_are c are = ap (map link_of) (referrals_are c are)
 
 -- ---- references on cycles
-
-map_append : {A B : Type 0} (f : A → B) (xs ys : List A) → map f (xs ++ ys) ≡ map f xs ++ map f ys
-map_append f [] ys = refl
-map_append f (x ∷ xs) ys = ap (λ l. f x ∷ l) (map_append f xs ys)
-
-filter_append : {A : Type 0} (test : A → Bool) (xs ys : List A) → filter test (xs ++ ys) ≡ filter test xs ++ filter test ys
-filter_append test [] ys = refl
-filter_append test (x ∷ xs) ys = go (test x) (filter_append test xs ys)
-  where
-    go : (b : Bool) → filter test (xs ++ ys) ≡ filter test xs ++ filter test ys → cond b (x ∷ filter test (xs ++ ys)) (filter test (xs ++ ys)) ≡ cond b (x ∷ filter test xs) (filter test xs) ++ filter test ys
-    go true e = ap (λ l. x ∷ l) e
-    go false e = e
 
 on_cycle : Calls → Referral → Bool
 on_cycle c r = is_on_cycle (links_of c) (link_of r)
@@ -94,10 +83,6 @@ all_units c n (x ∷ ns) (r ∷ rs) at long =
     ap (λ l. l ++ all_recursive c (n + 1) rs) (one_unit c n x (name_of names ns n x at) r)
     ∙ ap (λ l. map (λ r. r.at) (filter (on_cycle c) (map (as_referral names x) r)) ++ l) (all_units c (n + 1) ns rs (names_behind names ns n x at) (omega (arith, long)))
     ∙ sym (ap (map (λ r. r.at)) (filter_append (on_cycle c) (map (as_referral names x) r) (listed names ns rs)) ∙ map_append (λ r. r.at) (filter (on_cycle c) (map (as_referral names x) r)) (filter (on_cycle c) (listed names ns rs)))
-
-names_long : (us : List tree_unit.Unit) → length (map (λ u. u.name) us) ≡ length us
-names_long [] = refl
-names_long (u ∷ us) = omega (arith, names_long us)
 
 pub recursions_are : (c : Calls) → AreCalls c → option_places (earliest None (all_recursive c 0 c.references.items)) ≡ recursions (placed c.file.now)
 unfolding on_cycle

@@ -6,7 +6,6 @@ use Rattle.claw_meaning.specs.Syntax.{Text}
 use Rattle.fort_names.specs.NameLists.{with_name}
 use Rattle.numbered_graph.specs.Graphs.{Rows, row, times, is_behind, IsGraph}
 use Rattle.sound_programs.specs.CallFaults.{referrals_of}
-use Rattle.sound_programs.specs.Faults.{faults_of_calls}
 use Rattle.sound_programs.specs.Placed.{bare_program}
 use Rattle.sound_programs.specs.Placing.{placed, placed_unit}
 use Rattle.call_graph.specs.Referring.{unit_names, name_at}
@@ -33,8 +32,3 @@ pub record IsCallGraph (f : File) (g : CallGraph) : Type 0 where
       → map (name_at (unit_names f)) (row g.callees i) ≡ distinct_names (map (λ r. r.to) (referrals_of (bare_program (placed f)) (placed_unit u)))
   pub each_once : (x : ℕ) → times x g.order ≡ cond (nat_lt x (length f.units)) 1 0
   pub behind : is_behind g.callees [] g.order ≡ true
-
--- the file has no fault of calls, and this is its call graph
-pub record IsGraphOf (f : File) (g : CallGraph) : Type 0 where
-  pub no_fault : faults_of_calls (placed f) ≡ []
-  pub graph : IsCallGraph f g

@@ -3,8 +3,8 @@ ghost use Rattle.std.specs.Prelude.{◌≡◌, [], IfOk};
 ghost use Rattle.fort_names.specs.Scoping.{AreSymbolsOf};
 ghost use Rattle.sound_programs.specs.Faults.{faults_of_names};
 ghost use Rattle.sound_programs.specs.Placing.{placed};
-ghost use Rattle.numbered_graph.specs.Graphs.{each_once};
-ghost use Rattle.call_graph.specs.Calling.{AreCalls};
+ghost use Rattle.numbered_graph.specs.Graphs.{each_once, IsGraph, IsReverse};
+ghost use Rattle.call_graph.specs.Calling.{AreCalls, AreHeights};
 ghost use Rattle.call_graph.specs.Referring.{callees_of as callees_by, numbers};
 
 use crate::reference::Reference;
@@ -17,8 +17,9 @@ use std::alloc::Global;
 /// Calls are too deep from here on.
 pub const TOO_DEEP: usize = 65;
 
-/// The references of each unit, the units to which it refers, an order of those that lead to no cycle, and how deep their calls
-/// are, where all above 64 are 65.
+/// The references of each unit, the units to which it refers, and an order of those that lead to no cycle. The depth of a unit
+/// is how long a chain of calls begins there, where that leads to no cycle; its height how long a chain ends there, where no
+/// cycle leads to it. All above 64 are 65.
 #[derive(Drop)]
 pub struct Calls<'a> {
     pub file: &'a File,
@@ -26,6 +27,7 @@ pub struct Calls<'a> {
     pub callees: Vec<Row>,
     pub order: Vec<usize>,
     pub depths: Vec<Option<usize>>,
+    pub heights: Vec<Option<usize>>,
 }
 
 fn numbers_of(alloc: Global, references: &[Reference]) -> Result<Vec<usize>, NoMemory>
@@ -55,6 +57,20 @@ fn callees_of(alloc: Global, references: &[Seq<Reference>]) -> Result<Vec<Row>, 
     Ok(rows)
 }
 
+/// The heights of units. What has one lies on no cycle.
+fn heights_of(
+    alloc: Global,
+    callees: &[Row],
+    callers: &[Row],
+) -> Result<Vec<Option<usize>>, NoMemory>
+    requires graph { IsGraph callees.now }
+    requires reverse { IsReverse callees.now callers.now }
+    ensures { IfOk result (λ heights. AreHeights callees.now heights.items) }
+{
+    let order = peel(alloc, callers, callees)?;
+    Ok(depths(alloc, callers, order.as_slice(), TOO_DEEP)?)
+}
+
 /// The calls of a file.
 ///
 /// # Errors
@@ -70,11 +86,13 @@ pub fn calls_of<'a>(alloc: Global, file: &'a File, symbols: &Symbols) -> Result<
     let callers = reversed(alloc, callees.as_slice())?;
     let order = peel(alloc, callees.as_slice(), callers.as_slice())?;
     let depth_list = depths(alloc, callees.as_slice(), order.as_slice(), TOO_DEEP)?;
+    let height_list = heights_of(alloc, callees.as_slice(), callers.as_slice())?;
     Ok(Calls {
         file,
         references,
         callees,
         order,
         depths: depth_list,
+        heights: height_list,
     })
 }

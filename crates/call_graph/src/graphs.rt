@@ -4,7 +4,7 @@ ghost use Rattle.fort_names.specs.Scoping.{AreSymbolsOf};
 ghost use Rattle.sound_programs.specs.Faults.{faults_of_calls, faults_of_names};
 ghost use Rattle.sound_programs.specs.Placing.{placed};
 ghost use Rattle.sound_programs.specs.Reported.{IsStopBy};
-ghost use Rattle.call_graph.specs.CallGraphs.{IsGraphOf};
+ghost use Rattle.call_graph.specs.CallGraphs.{IsCallGraph};
 
 use crate::calls::{Calls, calls_of};
 use crate::faults::first_fault;
@@ -16,7 +16,7 @@ use std::marker::Model;
 
 /// For each unit of a file the units to which it refers, and an order of all units, by their numbers. Contracts see both as
 /// lists.
-#[derive(Drop)]
+#[derive(Debug, Drop)]
 pub struct Graph {
     order: Vec<usize>,
     callees: Vec<Row>,
@@ -43,9 +43,11 @@ impl<'a> Calls<'a> {
             callees,
             order,
             depths,
+            heights,
         } = self;
         drop(references);
         drop(depths);
+        drop(heights);
         Graph { order, callees }
     }
 }
@@ -59,7 +61,8 @@ impl<'a> Calls<'a> {
 pub fn graph_of(alloc: Global, file: &File, symbols: &Symbols) -> Result<Graph, Stop>
     requires symbols { AreSymbolsOf file.now symbols.now }
     requires names { faults_of_names (placed file.now) ≡ [] }
-    ensures graph { IfOk result (IsGraphOf file.now) }
+    ensures sound { IfOk result (λ graph. faults_of_calls (placed file.now) ≡ []) }
+    ensures graph { IfOk result (IsCallGraph file.now) }
     ensures stop { IfErr result (IsStopBy (faults_of_calls (placed file.now))) }
 {
     let calls = calls_of(alloc, file, symbols)?;

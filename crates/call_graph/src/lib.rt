@@ -7,5 +7,7 @@ mod graphs;
 mod reference;
 mod references;
 mod search;
+#[cfg(test)]
+mod tests;
 
 pub use graphs::{Graph, graph_of};

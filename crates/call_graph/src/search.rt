@@ -1,9 +1,8 @@
 //! References on cycles, and units whose calls are too deep.
-ghost use Rattle.std.specs.Prelude.{◌≡◌, ◌<◌, ◌++◌, ◌&&◌, [], IfOk, None, Some, true, length, map, slice_index_or};
+ghost use Rattle.std.specs.Prelude.{◌≡◌, ◌<◌, ◌++◌, ◌&&◌, [], IfOk, None, Some, true, false, length, map, slice_index_or};
 ghost use Rattle.fort_names.specs.Leasts.{places_at};
 ghost use Rattle.numbered_graph.specs.Graphs.{stands};
-ghost use Rattle.sound_programs.specs.Links.{leads_to_cycle as leads_to_cycle_of};
-ghost use Rattle.call_graph.specs.Calling.{AreCalls, is_first as is_first_of, is_recursive as recursive, recursive_places, all_recursive, is_deep, links_of};
+ghost use Rattle.call_graph.specs.Calling.{AreCalls, LiesOnNone, is_first as is_first_of, is_recursive as recursive, recursive_places, all_recursive, is_deep, links_of};
 ghost use Rattle.call_graph.specs.Earliest.{earliest};
 ghost use Rattle.call_graph.specs.Referring.{numbers, name_at, unit_names};
 
@@ -23,23 +22,15 @@ fn is_first(at: Place, first: Option<Place>) -> bool
     }
 }
 
-/// Whether the unit leads to a cycle.
-fn leads_to_cycle(calls: &Calls<'_>, unit: usize) -> bool
-    requires calls { AreCalls calls.now }
-    requires within { unit < length calls.now.file.now.units }
-    ensures { result ≡ leads_to_cycle_of (links_of calls.now) (name_at (unit_names calls.now.file.now) unit) }
+/// Whether the unit leads to a cycle and a cycle leads to it. What lies on a cycle does so.
+fn is_between_cycles(calls: &Calls<'_>, unit: usize) -> bool
+    requires { AreCalls calls.now }
+    ensures { result ≡ false → LiesOnNone calls.now.callees.items unit }
 {
-    depth_of(calls.depths.as_slice(), unit).is_none()
-}
-
-/// Whether both units lead to a cycle.
-fn both_lead_to_cycle(calls: &Calls<'_>, unit: usize, other: usize) -> bool
-    requires calls { AreCalls calls.now }
-    requires unit { unit < length calls.now.file.now.units }
-    requires other { other < length calls.now.file.now.units }
-    ensures { result ≡ (leads_to_cycle_of (links_of calls.now) (name_at (unit_names calls.now.file.now) unit) && leads_to_cycle_of (links_of calls.now) (name_at (unit_names calls.now.file.now) other)) }
-{
-    leads_to_cycle(calls, unit) && leads_to_cycle(calls, other)
+    if depth_of(calls.depths.as_slice(), unit).is_some() {
+        return false;
+    }
+    depth_of(calls.heights.as_slice(), unit).is_none()
 }
 
 /// Whether a reference in the unit lies on a cycle.
@@ -53,7 +44,10 @@ fn is_recursive(
     requires there { stands reference.unit (numbers (slice_index_or calls.now.references.items unit [])) ≡ true }
     ensures { IfOk result (λ on_cycle. on_cycle ≡ recursive calls.now unit reference) }
 {
-    if !both_lead_to_cycle(calls, unit, reference.unit) {
+    if !is_between_cycles(calls, unit) {
+        return Ok(false);
+    }
+    if !is_between_cycles(calls, reference.unit) {
         return Ok(false);
     }
     Ok(leads(alloc, calls.callees.as_slice(), reference.unit, unit)?)

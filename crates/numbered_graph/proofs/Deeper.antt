@@ -65,9 +65,6 @@ some_of (Some a) e = (a, refl)
 
 module _ (rows : Rows) (order : List ℕ) (limit : ℕ) (depths : List (Option ℕ)) (i point : ℕ) (is_order : IsOrder rows order) (within : i < length order) (at : point ≡ get_or order i 0)
     (so_far : AreDepths rows (take i order) limit depths) where
-  next_depth : ℕ
-  next_depth = depth_over limit depths 0 (row rows point)
-
   pub point_in : point < length rows
   point_in = is_order.within point (subst (λ x. stands x order ≡ true) (sym at) (there order i within))
     where
@@ -94,9 +91,6 @@ module _ (rows : Rows) (order : List ℕ) (limit : ℕ) (depths : List (Option �
     where
       nothing : (k : ℕ) → nat_le (suc k) 0 ≡ false
       nothing k = grind (arith, nat_tests)
-
-  new_depths : List (Option ℕ)
-  new_depths = set depths point (Some (depth_over limit depths 0 (row rows point)))
 
   same_at : depth_at (set depths point (Some (depth_over limit depths 0 (row rows point)))) point ≡ Some (depth_over limit depths 0 (row rows point))
   same_at = get_or-set_same depths point (Some (depth_over limit depths 0 (row rows point))) None (omega (arith, point_in, so_far.same_length))

@@ -5,3 +5,4 @@ pub mod Turned
 pub mod Peeling
 pub mod Deeper
 pub mod Searching
+pub mod Backwards

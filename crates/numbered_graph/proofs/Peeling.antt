@@ -6,7 +6,7 @@ use Rattle.std.proofs.lemmas.Bool.Decides.{nat_tests}
 use Rattle.std.proofs.Math.Seq.{take-append_seam}
 use Rattle.numbered_graph.specs.Graphs.{Rows, row, stands, times, IsGraph, IsReverse, is_behind, IsOrder}
 use Rattle.numbered_graph.specs.Peeling.{Peeled, released_one, released, can_release, missing, Peels}
-use Rattle.numbered_graph.proofs.Times.{same_number, itself, counted, no_times, none_stands, stands_if, times_if, times_append, times_last, stands_append, stands_cases, append_cases, nothing_missing, some_missing, one_more_done, at_most}
+use Rattle.numbered_graph.proofs.Times.{later_stands, same_number, itself, counted, no_times, none_stands, stands_if, times_if, times_append, times_last, stands_append, stands_cases, append_cases, nothing_missing, some_missing, one_more_done, at_most}
 use Rattle.numbered_graph.proofs.Ways.{none_behind, always_onwards}
 
 -- one more point stands behind all to which it has links
@@ -120,18 +120,12 @@ can_all rows done [] p below peels = refl
 can_all rows done (x ∷ xs) p below peels =
     let first : x < length rows = below x (ap (λ b. b || stands x xs) (itself x)) in
     and_from (nat_lt x (length p.waits) && nat_lt 0 (slice_index p.waits x)) (can_release (released_one p x) xs) (can_one rows done x xs p peels first)
-    (can_all rows done xs (released_one p x) (λ y e. below y (later y e)) (one_released rows done x xs p peels first))
-  where
-    later : (y : ℕ) → stands y xs ≡ true → stands y (x ∷ xs) ≡ true
-    later y e = stands_if y (x ∷ xs) (omega (arith, times_if y xs e))
+    (can_all rows done xs (released_one p x) (λ y e. below y (later_stands y x xs e)) (one_released rows done x xs p peels first))
 
 pub all_released : (rows : Rows) (done xs : List ℕ) (p : Peeled) → ((x : ℕ) → stands x xs ≡ true → x < length rows) → Peels rows done xs p → Peels rows done [] (released p xs)
 all_released rows done [] p below peels = peels
 all_released rows done (x ∷ xs) p below peels =
-    all_released rows done xs (released_one p x) (λ y e. below y (later y e)) (one_released rows done x xs p peels (below x (ap (λ b. b || stands x xs) (itself x))))
-  where
-    later : (y : ℕ) → stands y xs ≡ true → stands y (x ∷ xs) ≡ true
-    later y e = stands_if y (x ∷ xs) (omega (arith, times_if y xs e))
+    all_released rows done xs (released_one p x) (λ y e. below y (later_stands y x xs e)) (one_released rows done x xs p peels (below x (ap (λ b. b || stands x xs) (itself x))))
 
 -- ---- the next point
 

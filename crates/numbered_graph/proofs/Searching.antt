@@ -1,10 +1,10 @@
 -- What a search finds can be reached, and at its end that is all.
-use Rattle.std.proofs.Common.{◌≡◌, ℕ, zero, suc, ◌+◌, ◌<◌, ◌≤◌, ◌≢◌, ◌↔◌, Bool, true, false, ◌||◌, cond, nat_eq, List, [], ◌∷◌, ◌++◌, length, take, drop, get_or, set, replicate, slice_get, Some, None, IsTrue, refl, sym, ap, ◌∙◌, subst, arith, ◌⊎◌, inl, inr, append_assoc, append-nil, eq-eqb, get_or-set_other, get_or-set_same, length-set, length-append, length-take-le, take_all}
+use Rattle.std.proofs.Common.{◌≡◌, ℕ, zero, suc, ◌+◌, ◌<◌, ◌≤◌, ◌≢◌, ◌↔◌, Bool, true, false, cond, nat_eq, List, [], ◌∷◌, ◌++◌, length, take, drop, get_or, set, replicate, slice_get, Some, None, IsTrue, refl, sym, ap, ◌∙◌, subst, arith, ◌⊎◌, inl, inr, append_assoc, append-nil, eq-eqb, get_or-set_other, get_or-set_same, length-set, length-append, length-take-le, take_all}
 use Rattle.std.proofs.lemmas.Bool.{false≢true}
 use Rattle.std.proofs.Math.Seq.{take-append_seam}
 use Rattle.numbered_graph.specs.Graphs.{Rows, row, stands, times, IsGraph, Way, here, onwards}
 use Rattle.numbered_graph.specs.Searching.{Searched, is_seen, found_one, found_all, IsSearch, Searches}
-use Rattle.numbered_graph.proofs.Times.{same_number, itself, counted, no_times, stands_if, times_if, times_last, stands_append, stands_last, stands_cases, append_cases, at_most}
+use Rattle.numbered_graph.proofs.Times.{first_stands, later_stands, same_number, counted, no_times, times_last, stands_append, stands_last, stands_cases, append_cases, at_most}
 use Rattle.numbered_graph.proofs.Ways.{joined}
 use Rattle.numbered_graph.proofs.Deeper.{stands_other}
 use Rattle.numbered_graph.proofs.Peeling.{cut_at, cut_within, cut_stands, no_cut}
@@ -71,12 +71,6 @@ finds_one n s x i h false e =
       all = λ y k. ap (λ z. stands z (s.found ++ x ∷ [])) (only_one x y k) ∙ stands_last x s.found;
       only = λ y k. append_cases y s.found (x ∷ []) k;
     })
-
-first_stands : (x : ℕ) (xs : List ℕ) → stands x (x ∷ xs) ≡ true
-first_stands x xs = ap (λ b. b || stands x xs) (itself x)
-
-later_stands : (y x : ℕ) (xs : List ℕ) → stands y xs ≡ true → stands y (x ∷ xs) ≡ true
-later_stands y x xs e = stands_if y (x ∷ xs) (omega (arith, times_if y xs e))
 
 finds_all : (n : ℕ) (s : Searched) (xs : List ℕ) → IsSearch n s → ((x : ℕ) → stands x xs ≡ true → x < n) → Finds n s xs (found_all s xs)
 finds_all n s [] i below = record { is_search = i; more = []; goes_on = sym (append-nil s.found); all = λ y k. absurd (false≢true k); only = λ y k. inl k }

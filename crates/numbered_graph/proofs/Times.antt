@@ -64,6 +64,13 @@ stands_append x xs ys h = stands_if x (xs ++ ys) (omega (arith, times_append x x
 pub stands_last : (y : ℕ) (xs : List ℕ) → stands y (xs ++ y ∷ []) ≡ true
 stands_last y xs = stands_if y (xs ++ y ∷ []) (omega (arith, times_last y y xs, counted (itself y)))
 
+-- the first of a list stands in it, and what stands behind it does
+pub first_stands : (x : ℕ) (xs : List ℕ) → stands x (x ∷ xs) ≡ true
+first_stands x xs = ap (λ b. b || stands x xs) (itself x)
+
+pub later_stands : (y x : ℕ) (xs : List ℕ) → stands y xs ≡ true → stands y (x ∷ xs) ≡ true
+later_stands y x xs e = stands_if y (x ∷ xs) (omega (arith, times_if y xs e))
+
 -- the first of a list, or one behind it
 pub stands_cases : (x y : ℕ) (ys : List ℕ) → stands x (y ∷ ys) ≡ true → (x ≡ y) ⊎ (stands x ys ≡ true)
 stands_cases x y ys h = go (nat_eq x y) refl h

@@ -4,16 +4,13 @@ use Rattle.std.proofs.lemmas.Bool.{false≢true}
 use Rattle.std.proofs.lemmas.Bool.Decides.{nat_tests}
 use Rattle.numbered_graph.specs.Graphs.{Rows, row, stands, times, IsGraph, IsReverse}
 use Rattle.numbered_graph.specs.Turning.{with_link, with_links, all_links}
-use Rattle.numbered_graph.proofs.Times.{same_number, itself, times_last, stands_if, times_if}
+use Rattle.numbered_graph.proofs.Times.{later_stands, same_number, itself, times_last, stands_if, times_if}
 
 -- one of a list stands in it
 pub stands_at : (xs : List ℕ) (i d : ℕ) → i < length xs → stands (get_or xs i d) xs ≡ true
 stands_at [] i d h = absurd (omega (arith, h))
 stands_at (x ∷ xs) zero d h = ap (λ b. b || stands x xs) (itself x)
 stands_at (x ∷ xs) (suc i) d h = stands_if (get_or xs i d) (x ∷ xs) (omega (arith, times_if (get_or xs i d) xs (stands_at xs i d (omega (arith, h)))))
-
-later_stands : (y x : ℕ) (xs : List ℕ) → stands y xs ≡ true → stands y (x ∷ xs) ≡ true
-later_stands y x xs e = stands_if y (x ∷ xs) (omega (arith, times_if y xs e))
 
 -- ---- one link
 
@@ -65,9 +62,6 @@ all_length from back (r ∷ rs) = all_length (from + 1) (with_links from back r)
 -- the rows of points from a number on
 given : ℕ → Rows → ℕ → List ℕ
 given from rs x = cond (nat_le from x) (row rs (x - from)) []
-
-no_row : (x : ℕ) → row [] x ≡ []
-no_row x = refl
 
 given_none : (from x y : ℕ) → times y (given from [] x) ≡ 0
 unfolding given

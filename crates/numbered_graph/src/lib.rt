@@ -7,6 +7,8 @@ mod peeled;
 mod reverse;
 mod row;
 mod search;
+#[cfg(test)]
+mod tests;
 
 pub use depth::{depth_of, depths};
 pub use numbers::distinct;

@@ -5,7 +5,7 @@ use std::alloc::{AllocError, Global};
 use std::marker::Model;
 
 /// Numbers in an order. Contracts see the list.
-#[derive(Drop)]
+#[derive(Debug, Drop)]
 pub struct Row {
     numbers: Vec<usize>,
 }

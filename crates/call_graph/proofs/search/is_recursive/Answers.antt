@@ -1,18 +1,14 @@
-use Rattle.std.proofs.Common.{◌↔◌, ◌∙◌, ap, sym, subst, arith, length, IsTrue}
+use Rattle.std.proofs.Common.{◌↔◌, ap, sym, subst, arith, length, IsTrue}
 use Rattle.numbered_graph.specs.Graphs.{IsGraph, Way}
-use Rattle.call_graph.proofs.Cycles.{unit_within, callee_within, recursive_is, not_recursive, graph, many_callees}
+use Rattle.call_graph.proofs.Cycles.{unit_within, callee_within, recursive_is, off_at_unit, off_at_callee, graph, many_callees}
 use Rattle.call_graph.proofs.search.is_recursive.Goals as goal
 
 -- src/search.rt
-pub both_lead_to_cycle-requires : goal.both_lead_to_cycle-requires
-both_lead_to_cycle-requires c = record {
-  calls = c.requires.calls;
-  unit = unit_within c.args.calls.now c.requires.calls c.args.unit c.args.reference c.requires.there;
-  other = callee_within c.args.calls.now c.requires.calls c.args.unit c.args.reference c.requires.there;
-}
+pub returns-then-not-is_between_cycles : goal.returns-then-not-is_between_cycles
+returns-then-not-is_between_cycles c = off_at_unit c.args.calls.now c.requires.calls c.args.unit c.args.reference c.requires.there (c.is_between_cycles.ensures c.if-not-is_between_cycles.true)
 
-pub returns-then-not-both_lead_to_cycle : goal.returns-then-not-both_lead_to_cycle
-returns-then-not-both_lead_to_cycle c = not_recursive c.args.calls.now c.requires.calls c.args.unit c.args.reference c.requires.there (sym c.both_lead_to_cycle.ensures ∙ c.if-not-both_lead_to_cycle.true)
+pub returns-then-not-is_between_cycles-2 : goal.returns-then-not-is_between_cycles-2
+returns-then-not-is_between_cycles-2 c = off_at_callee c.args.calls.now c.requires.calls c.args.unit c.args.reference c.requires.there (c.is_between_cycles-2.ensures c.if-not-is_between_cycles-2.true)
 
 pub leads-requires : goal.leads-requires
 leads-requires c =
