@@ -33,3 +33,4 @@ mod FirstTokens
 mod OneForm
 mod OneProgram
 mod OneReading
+mod TextsTaken

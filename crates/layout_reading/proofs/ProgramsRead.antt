@@ -37,7 +37,7 @@ front_file : (number : ℕ) (ts : List Token) → begins_in number (map word_of 
 front_file number [] h = absurd (true≢false (sym h))
 front_file number (t ∷ ts) h = eqb-true t.at.file number h
 
-line_is : (number : ℕ) (row : Row) (l : Line) → shown (written l) ≡ line_of Target row → begins_in number (map word_of l.tokens) ≡ true → IsLineOf number row (token_line l)
+pub line_is : (number : ℕ) (row : Row) (l : Line) → shown (written l) ≡ line_of Target row → begins_in number (map word_of l.tokens) ≡ true → IsLineOf number row (token_line l)
 line_is number row l e h = record {
   directive = ap (λ (s : Shown). s.directive) e;
   texts_are = same_texts l.tokens ∙ ap (λ (s : Shown). s.texts) e;

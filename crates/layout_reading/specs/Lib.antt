@@ -8,3 +8,4 @@ pub mod Nested
 pub mod Programs
 pub mod SmallPrograms
 pub mod Readings
+pub mod WholeTexts
