@@ -34,3 +34,7 @@ mod OneForm
 mod OneProgram
 mod OneReading
 mod TextsTaken
+mod WideSums
+mod WideForms
+mod WidePrinted
+mod SourcesWritten

@@ -9,3 +9,4 @@ pub mod Programs
 pub mod SmallPrograms
 pub mod Readings
 pub mod WholeTexts
+pub mod WideUnits

@@ -29,6 +29,7 @@ ghost use Rattle.layout_reading.specs.Statements.{AreStatement, IsOneRow, IsStat
 ghost use Rattle.layout_reading.specs.SmallPrograms.{idle_file, idle_text};
 ghost use Rattle.layout_reading.specs.Readings.{HasToken};
 ghost use Rattle.layout_reading.specs.Tokens.{piece_texts, texts};
+ghost use Rattle.layout_reading.specs.WideUnits.{SourcesWritable, WideUnitsPrintable};
 ghost use Rattle.layout_reading.specs.WholeTexts.{AreReadAs, IsReadAs, IsWholeFile};
 
 use claw_lines::reading_is_unique;
@@ -102,6 +103,13 @@ pub fn layouts_are_programs()
     reading_is_unique();
     lines_that_nest_are_a_program();
 }
+
+/// A unit of column scalars whose names can be written, and whose sums tokens derive, can be written for all columns. The names and sums of a unit that lines spell are
+/// such.
+pub fn wide_units_are_printable()
+    ensures printable { WideUnitsPrintable }
+    ensures spelled { SourcesWritable }
+{}
 
 /// Lines, each with a token, are read as one program at most, places included.
 pub fn programs_are_unique()
