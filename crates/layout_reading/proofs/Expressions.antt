@@ -524,7 +524,7 @@ mutual
 
 -- WHOLE EXPRESSIONS
 
-starts_pieces : (k : List Piece) → Starts k → ArePieces k
+pub starts_pieces : (k : List Piece) → Starts k → ArePieces k
 starts_pieces [] s = absurd s
 starts_pieces (p ∷ ps) s = (s.0, s.2)
 

@@ -33,3 +33,8 @@ mod FirstTokens
 mod OneForm
 mod OneProgram
 mod OneReading
+mod TextsTaken
+mod WideSums
+mod WideForms
+mod WidePrinted
+mod SourcesWritten

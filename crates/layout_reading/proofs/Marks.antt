@@ -83,7 +83,7 @@ both_items : (form : DirectiveWord) (o : Option (List ℕ)) (id : List ℕ) → 
 both_items form None id e = absurd (none_some (sym e))
 both_items form (Some text) id e = (text, refl, e)
 
-item_name : (form : DirectiveWord) (t : Token) (id : List ℕ) → is_token t.text ≡ true → free_item form t ≡ Some id → MarkName id × (t.text ≡ id)
+pub item_name : (form : DirectiveWord) (t : Token) (id : List ℕ) → is_token t.text ≡ true → free_item form t ≡ Some id → MarkName id × (t.text ≡ id)
 item_name form t id real e =
     let b = both_items form (name_text t.text) id e in
     let n = some_text (is_name t.text) t.text b.0 b.1 in

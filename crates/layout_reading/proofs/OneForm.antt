@@ -89,7 +89,7 @@ gives (says {s = s} h) = a_statement s refl h refl
 gives (directs {d = d} h) = a_mark d refl h refl
 
 module _ (built : AreBuilt) (once : AskOnce) where
-  one_statement : (tokens : List Token) (s x : Statement) → IsStatement tokens s → IsStatement tokens x → s ≡ x
+  pub one_statement : (tokens : List Token) (s x : Statement) → IsStatement tokens s → IsStatement tokens x → s ≡ x
   one_statement tokens s x d e =
       let a = built tokens s d in
       let b = built tokens x e in

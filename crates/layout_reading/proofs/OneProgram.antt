@@ -41,10 +41,10 @@ some_none e = cc
 
 -- A LINE
 
-line_front : {mode : Mode} (line : Line) → IsHeaded mode line → line.at ≡ front_place line.tokens
+pub line_front : {mode : Mode} (line : Line) → IsHeaded mode line → line.at ≡ front_place line.tokens
 line_front line h = h.at_first ∙ sym (ap front_place h.tokens_are)
 
-line_first : {mode : Mode} (line : Line) → IsHeaded mode line → first_place line.at line.tokens ≡ front_place line.tokens
+pub line_first : {mode : Mode} (line : Line) → IsHeaded mode line → first_place line.at line.tokens ≡ front_place line.tokens
 line_first line h = ap (first_place line.at) h.tokens_are ∙ sym (ap front_place h.tokens_are)
 
 -- forms nest into one file at most
@@ -75,7 +75,7 @@ module _ (once : AskOnce) where
 -- FILES
 
 -- no forms nest the same in every mode
-none_nests : {mode : Mode} (other : Mode) {n m : ℕ} {ms : List Module} {us : List tree_unit.Unit} {order : List tree_item.Item} → Nests_from mode n m [] ms us order → Nests_from other n m [] ms us order
+pub none_nests : {mode : Mode} (other : Mode) {n m : ℕ} {ms : List Module} {us : List tree_unit.Unit} {order : List tree_item.Item} → Nests_from mode n m [] ms us order → Nests_from other n m [] ms us order
 none_nests other no_more = no_more
 none_nests other (module_first a rest) = elim a [ ]
 none_nests other (unit_first a rest) = elim a [ ]

@@ -37,14 +37,14 @@ front_file : (number : ℕ) (ts : List Token) → begins_in number (map word_of 
 front_file number [] h = absurd (true≢false (sym h))
 front_file number (t ∷ ts) h = eqb-true t.at.file number h
 
-line_is : (number : ℕ) (row : Row) (l : Line) → shown (written l) ≡ line_of Target row → begins_in number (map word_of l.tokens) ≡ true → IsLineOf number row (token_line l)
+pub line_is : (number : ℕ) (row : Row) (l : Line) → shown (written l) ≡ line_of Target row → begins_in number (map word_of l.tokens) ≡ true → IsLineOf number row (token_line l)
 line_is number row l e h = record {
   directive = ap (λ (s : Shown). s.directive) e;
   texts_are = same_texts l.tokens ∙ ap (λ (s : Shown). s.texts) e;
   in_file = front_file number l.tokens h;
 }
 
-lines_are : (number : ℕ) (rows : List Row) (lines : List Line) → map shown (map written lines) ≡ map (line_of Target) rows → list_all (λ (w : Written). begins_in number w.words) (map written lines) ≡ true →
+pub lines_are : (number : ℕ) (rows : List Row) (lines : List Line) → map shown (map written lines) ≡ map (line_of Target) rows → list_all (λ (w : Written). begins_in number w.words) (map written lines) ≡ true →
     AreLinesOf number rows (map token_line lines)
 lines_are number [] [] e h = tt
 lines_are number [] (l ∷ lines) e h = absurd cc
@@ -61,10 +61,10 @@ whole number file = record { modules_before = []; units_before = []; count_modul
 same_file : (a b : List plain.Module) (c d : List plain.Unit) (o : List plain.Item) → a ≡ b → c ≡ d → ◌≡◌ {A = plain.Program} (record { modules = a; units = c; order = o }) (record { modules = b; units = d; order = o })
 same_file a b c d o e f = ap (λ x. record { modules = x; units = c; order = o }) e ∙ ap (λ x. record { modules = b; units = x; order = o }) f
 
-written_stands : {forms : List Form} (file : File) → Nests Target forms file → Each (FormFits) forms → AreReadable (file_rows file)
+pub written_stands : {forms : List Form} (file : File) → Nests Target forms file → Each (FormFits) forms → AreReadable (file_rows file)
 written_stands file n r = (law_file 0 n r).stands file (whole 0 file)
 
-written_nests : (number : ℕ) {forms : List Form} (file : File) (lines : List TokenLine) → Nests Target forms file → Each (FormFits) forms → AreLinesOf number (file_rows file) lines → AreFile lines file
+pub written_nests : (number : ℕ) {forms : List Form} (file : File) (lines : List TokenLine) → Nests Target forms file → Each (FormFits) forms → AreLinesOf number (file_rows file) lines → AreFile lines file
 written_nests number file lines n r k =
     let a = (law_file number n r).again file (whole number file) lines k in
     record {

@@ -8,3 +8,5 @@ pub mod Nested
 pub mod Programs
 pub mod SmallPrograms
 pub mod Readings
+pub mod WholeTexts
+pub mod WideUnits

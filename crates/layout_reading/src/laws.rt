@@ -29,10 +29,13 @@ ghost use Rattle.layout_reading.specs.Statements.{AreStatement, IsOneRow, IsStat
 ghost use Rattle.layout_reading.specs.SmallPrograms.{idle_file, idle_text};
 ghost use Rattle.layout_reading.specs.Readings.{HasToken};
 ghost use Rattle.layout_reading.specs.Tokens.{piece_texts, texts};
+ghost use Rattle.layout_reading.specs.WideUnits.{SourcesWritable, WideUnitsPrintable};
+ghost use Rattle.layout_reading.specs.WholeTexts.{AreReadAs, IsReadAs, IsWholeFile};
 
 use claw_lines::reading_is_unique;
 use fort_lex::lines_are_unique;
 use fort_stmt::statements_are_derived;
+use fort_units::lines_that_nest_are_a_program;
 use sound_programs::forms_nest_into_one_file;
 
 /// The text of rows, spaced and broken into lines, is read as a line for each row, in order, with the tokens of its pieces, and no other.
@@ -87,6 +90,26 @@ pub fn layouts_spell_one_file()
     reading_is_unique();
     forms_nest_into_one_file();
 }
+
+/// Where a file's text is within the limits of a target text, it is read as a program, which is the file, places set aside: it has no fault, and its lines, which are its
+/// only ones, are a program of the file's plain tree.
+pub fn layouts_are_programs()
+    ensures read { (number : ℕ) (file : File) → IsWholeFile file → IsReadAs number (layout_of file) file }
+    ensures alone { (number : ℕ) (file : File) (lines : List Line) (faults : List Fault) → IsWholeFile file → HasLines number Target (layout_of file) (map written lines) faults → AreReadAs lines file × (faults ≡ []) }
+{
+    layouts_are_read();
+    lines_are_unique();
+    statements_are_derived();
+    reading_is_unique();
+    lines_that_nest_are_a_program();
+}
+
+/// A unit of column scalars whose names can be written, and whose sums tokens derive, can be written for all columns. The names and sums of a unit that lines spell are
+/// such.
+pub fn wide_units_are_printable()
+    ensures printable { WideUnitsPrintable }
+    ensures spelled { SourcesWritable }
+{}
 
 /// Lines, each with a token, are read as one program at most, places included.
 pub fn programs_are_unique()
