@@ -1,5 +1,5 @@
 -- Column units by their directives.
-use Rattle.std.proofs.Common.{◌≡◌, Bool, true, false, cond, ◌&&◌, ◌||◌, List, [], ◌∷◌, Option, None, Some, map, refl, sym, ap, ◌∙◌}
+use Rattle.std.proofs.Common.{◌≡◌, Bool, true, false, cond, ◌&&◌, ◌||◌, List, [], ◌∷◌, Option, Some, map, refl, sym, ap, ◌∙◌}
 use Rattle.std.specs.Prelude.{is_some}
 use Rattle.fort_tree.specs.declared.stmt.Directive.{Directive}
 use Rattle.fort_tree.specs.declared.stmt.DirectiveWord.{DirectiveWord}

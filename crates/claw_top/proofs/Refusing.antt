@@ -1,6 +1,5 @@
 -- A refusal stands in one of the files.
 use Rattle.std.proofs.Common.{◌≡◌, ℕ, ◌<◌, Bool, true, false, cond, List, [], ◌∷◌, ◌++◌, map, refl, ap, ◌∙◌, subst, Contains, Ok, Err, IfOk, IfErr}
-use Rattle.std.specs.List.{All}
 use Rattle.std.proofs.lemmas.List.Elements.{All-head, All-tail}
 use Rattle.fort_tree.specs.declared.choice.Mode.{Mode}
 use Rattle.std.specs.declared.result.Result.{Result}

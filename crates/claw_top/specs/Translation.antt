@@ -15,6 +15,7 @@ use Rattle.claw_meaning.specs.Kept.{Kept}
 use Rattle.fort_spell.specs.Units.{layout_of}
 use Rattle.fort_tree.specs.declared.statement.Line.{Line}
 use Rattle.fort_units.specs.Program.{IsProgram}
+use Rattle.layout_reading.specs.Programs.{Spells}
 use Rattle.claw_top.specs.Connected.{IsConnected}
 use Rattle.claw_top.specs.Sources.{HaveLines}
 
@@ -33,7 +34,8 @@ pub record AreSpelled (sources : List (List ℕ)) (file : File) : Type 0 where
 
 -- The sources spell one program, and the text is the layout of another. That one has the interface of the sources' program
 -- with its wide variables, erases to it, and has its loops over the columns where they must stand; and for every number of
--- columns, every well-typed input and every order of parallel iterations it keeps what the sources' program does.
+-- columns, every well-typed input and every order of parallel iterations it keeps what the sources' program does. As a made
+-- text, the text is read as that program and as no other, places set aside.
 pub record Translation (sources : List (List ℕ)) (text : List ℕ) : Type 0 where
   pub directed : File
   pub written : File
@@ -45,3 +47,5 @@ pub record Translation (sources : List (List ℕ)) (text : List ℕ) : Type 0 wh
   pub erased : Erased (plain_file directed) (plain_file written) wide
   pub spread : Spread (plain_file directed) (plain_file written) wide (λ i x. false) Cpu Plain
   pub kept : (plan : Plan) → Kept (plain_file directed) (plain_file written) plan
+  pub read : (number : ℕ) → Spells number text written
+  pub alone : (number : ℕ) (other : File) → Spells number text other → plain_file other ≡ plain_file written

@@ -16,6 +16,7 @@ use column_scalars::widen;
 use fort_lex::lines;
 use fort_tree::{Fault, File, Item, Line, Mode, NoMemory, Seq, Stop, Unit};
 use fort_units::file;
+use layout_reading::{layouts_are_read, layouts_spell_one_file, wide_units_are_printable};
 use name_faults::names;
 use scalar_units::first_unbuilt;
 use std::alloc::Global;
@@ -131,6 +132,9 @@ fn translate(
         let begin = begins_at(place, lines.items());
         return Ok(Compiled::Fault(Fault::outside_profile(begin, 13)));
     }
+    layouts_are_read();
+    layouts_spell_one_file();
+    wide_units_are_printable();
     let Some((unit, _)) = program.units.items().split_first() else {
         return Ok(Compiled::Program(empty(alloc)));
     };
