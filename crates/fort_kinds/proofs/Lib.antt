@@ -1,0 +1,4 @@
+pub mod Levels
+pub mod Subs
+pub mod Gathers
+pub mod Differs

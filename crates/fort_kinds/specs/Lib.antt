@@ -1,0 +1,4 @@
+pub mod OneSub
+pub mod Gathering
+pub mod KindsSeen
+pub mod Sites

@@ -1,0 +1,14 @@
+//! The kinds and ranks of expressions, where faults leave them.
+#![tactic(auto)]
+
+mod differing;
+mod kinding;
+mod numbers;
+mod ranking;
+mod sites;
+
+pub use differing::differing_kind;
+pub use kinding::{is_integer, is_logical, kind_named_by, kind_of};
+pub use numbers::{case_value, first, in_kind, is_value_of, written_number};
+pub use ranking::{Ranks, first_differing, rank_of};
+pub use sites::{Site, sites_of};
