@@ -1,0 +1,9 @@
+pub mod Levels
+pub mod Subs
+pub mod Gathers
+pub mod Differs
+pub mod Places
+pub mod Fits
+pub mod Overlaps
+pub mod Decls
+pub mod Seeking

@@ -1,0 +1,10 @@
+pub mod OneSub
+pub mod Gathering
+pub mod KindsSeen
+pub mod Needs
+pub mod Holders
+pub mod Sites
+pub mod Fitting
+pub mod Cases
+pub mod Counts
+pub mod InScopes

@@ -1,0 +1,27 @@
+//! Faults of kinds, of ranks and of numbers of arguments.
+#![tactic(auto)]
+
+mod actuals;
+mod bounds;
+mod cases;
+mod counts;
+mod differing;
+mod files;
+mod holder;
+mod kind_decls;
+mod kind_parts;
+mod kind_steps;
+mod kinding;
+mod needs;
+mod numbers;
+mod rank_decls;
+mod rank_parts;
+mod rank_steps;
+mod ranking;
+mod sites;
+mod sought;
+
+pub use files::{note_counts, note_kinds, note_ranks};
+pub use kinding::kind_of;
+pub use numbers::first;
+pub use ranking::rank_of;
