@@ -96,3 +96,7 @@ rank_is entity os none all n e g h = h ∙ ap (λ r. or_zero r.first) (g ∙ ap 
 
 pub differing_is : (os : List Operand) (none all : Ranks) → none ≡ none_yet → all ≡ gathered none os → option_places all.other ≡ differing os
 differing_is os none all e g = ap (λ r. option_places r.other) (g ∙ ap (λ r. gathered r os) e) ∙ other_gathered os
+
+pub apart_is : (xs ys : List Operand) (none some all : Ranks) → none ≡ none_yet → some ≡ gathered none xs → all ≡ gathered some ys → option_places all.other ≡ differing (xs ++ ys)
+apart_is xs ys none some all e g h =
+    ap (λ r. option_places r.other) (h ∙ ap (λ r. gathered r ys) (g ∙ ap (λ r. gathered r xs) e) ∙ sym (gathered_append none_yet xs ys)) ∙ other_gathered (xs ++ ys)

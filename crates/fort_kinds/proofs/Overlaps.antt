@@ -1,14 +1,25 @@
 -- Ranges overlap where their choices do.
-use Rattle.std.proofs.Common.{◌≡◌, Bool, true, false, ◌&&◌, List, [], ◌∷◌, ◌++◌, map, Option, None, Some, if◌then◌else◌, refl, sym, ap, ◌∙◌}
+use Rattle.std.proofs.Common.{◌≡◌, ℕ, ◌+◌, ◌<◌, length, get_or, drop, Bool, true, false, ◌&&◌, List, [], ◌∷◌, ◌++◌, map, Option, None, Some, if◌then◌else◌, refl, sym, ap, ◌∙◌}
 use Rattle.std.specs.Prelude.{ℤ, flat_map}
 use Rattle.std.specs.Option.{option_to_list}
+use denote.Ref.{Bor}
+use Rattle.fort_tree.specs.declared.fault.Code.TheVariants.{E32}
 use Rattle.fort_tree.specs.declared.place.Place.{Place}
+use Rattle.fort_tree.specs.declared.stmt.Range as tree_range
 use Rattle.claw_meaning.specs.Syntax.{Text}
 use Rattle.claw_meaning.specs.Scope.{Entity}
-use Rattle.sound_programs.specs.KindFaults.{Numbers, edge, numbers_between, numbers_in, is_below, overlap, first_value, overlaps, overlapping}
+use Rattle.sound_programs.specs.KindFaults.{Numbers, needs_integer, needs_of_step, case_fault, values_of, edge, numbers_between, numbers_in, is_below, overlap, first_value, overlaps, overlapping}
 use Rattle.sound_programs.specs.Placed.{Expr, Range, Single, Span}
 use Rattle.sound_programs.specs.Places.{option_places}
-use Rattle.fort_kinds.specs.Cases.{nobody, first_or_none, choice_of, overlaps_by, overlaps_of, overlapping_choices}
+use Rattle.sound_programs.specs.Faults.{Found, found}
+use Rattle.sound_programs.specs.Kinding.{kind}
+use Rattle.sound_programs.specs.Walks.{Chooses}
+use Rattle.fort_names.specs.Leasts.{noted}
+use Rattle.fort_names.proofs.FirstOf.{noted_places}
+use Rattle.fort_kinds.specs.declared.cases.Choice.{Choice}
+use Rattle.fort_kinds.proofs.Places.{noted_three}
+use Rattle.fort_kinds.proofs.Subs.{at_any}
+use Rattle.fort_kinds.specs.Cases.{nobody, between, numbers_of, value_place, choice_of, overlaps_by, overlaps_of, overlapping_choices, placed_ranges}
 
 module _ (entity : Text → Entity) where
   below_same : (a b : Option ℤ) → is_below entity a b ≡ is_below nobody a b
@@ -20,16 +31,16 @@ module _ (entity : Text → Entity) where
   overlap_same a b =
       λ t. (below_same a.0 a.1 t && below_same b.0 b.1 t) && (below_same a.0 b.1 t && below_same b.0 a.1 t)
 
-  between_one : (lower upper : Option (Option ℤ)) → numbers_between entity lower upper ≡ option_to_list (first_or_none (numbers_between entity lower upper))
+  between_one : (lower upper : Option (Option ℤ)) → numbers_between entity lower upper ≡ option_to_list (between lower upper)
   between_one None upper = refl
   between_one (Some a) None = refl
   between_one (Some a) (Some b) = refl
 
-  numbers_one : (r : Range) → numbers_in entity r ≡ option_to_list (first_or_none (numbers_in entity r))
+  numbers_one : (r : Range) → numbers_in entity r ≡ option_to_list (numbers_of entity r)
   numbers_one (Single e) = between_one (edge entity (Some e)) (edge entity (Some e))
   numbers_one (Span lower upper) = between_one (edge entity lower) (edge entity upper)
 
-  value_one : (r : Range) → first_value entity r ≡ option_places (first_or_none (first_value entity r))
+  value_one : (r : Range) → first_value entity r ≡ option_places (value_place r)
   value_one (Single e) = refl
   value_one (Span (Some lower) upper) = refl
   value_one (Span None (Some upper)) = refl
@@ -51,7 +62,7 @@ module _ (entity : Text → Entity) where
   overlaps_are : (a b : Range) → overlaps entity a b ≡ overlaps_of (choice_of entity a) (choice_of entity b)
   overlaps_are a b =
       (λ t. Pairs (numbers_one a t) (numbers_one b t) (value_one b t))
-      ∙ pairs_are (first_or_none (numbers_in entity a)) (first_or_none (numbers_in entity b)) (first_or_none (first_value entity b))
+      ∙ pairs_are (numbers_of entity a) (numbers_of entity b) (value_place b)
 
   behind_are : (a : Range) (rs : List Range) → flat_map (overlaps entity a) rs ≡ flat_map (overlaps_of (choice_of entity a)) (map (choice_of entity) rs)
   behind_are a [] = refl
@@ -63,3 +74,25 @@ module _ (entity : Text → Entity) where
 
 pub choices_overlap : (entity : Text → Entity) (rs : List Range) → overlapping entity rs ≡ overlapping_choices (map (choice_of entity) rs)
 choices_overlap entity rs = all_are entity rs
+
+-- what is noted of a SELECT
+pub select_noted : (entity : Text → Entity) (e : Expr) (rs : List Range) (ranges : List (Bor tree_range.Range)) (choices : List Choice) (old a b new : Option Found) →
+    placed_ranges ranges ≡ rs → choices ≡ map (choice_of entity) rs →
+    a ≡ noted (found E32 (needs_integer entity e)) old →
+    b ≡ noted (found E32 (flat_map (case_fault entity (kind entity e)) (flat_map (values_of entity) (placed_ranges ranges)))) a →
+    new ≡ noted (found E32 (overlapping_choices choices)) b →
+    new ≡ noted (found E32 (needs_of_step entity (Chooses e rs))) old
+select_noted entity e rs ranges choices old a b new is are first second third =
+    noted_three E32 (needs_integer entity e) (flat_map (case_fault entity (kind entity e)) (flat_map (values_of entity) rs)) (overlapping entity rs) old a b new first
+    (second ∙ ap (λ l. noted (found E32 (flat_map (case_fault entity (kind entity e)) (flat_map (values_of entity) l))) a) is)
+    (third ∙ ap (λ l. noted (found E32 l) b) (ap overlapping_choices are ∙ sym (all_are entity rs)))
+
+-- one more range, before those behind it
+pub next_choice : (items : List Choice) (i : ℕ) (d : Choice) (behind : List Choice) → i < length items → behind ≡ drop (i + 1) items → (old new : Option Found) →
+    new ≡ noted (found E32 (flat_map (overlaps_of (get_or items i d)) behind)) old →
+    noted (found E32 (overlapping_choices (drop (i + 1) items))) new ≡ noted (found E32 (overlapping_choices (drop i items))) old
+next_choice items i d behind within is old new e =
+    let at : drop i items ≡ get_or items i d ∷ drop (i + 1) items = at_any items i d within in
+    ap (noted (found E32 (overlapping_choices (drop (i + 1) items)))) (e ∙ ap (λ l. noted (found E32 (flat_map (overlaps_of (get_or items i d)) l)) old) is)
+    ∙ sym (noted_places E32 (flat_map (overlaps_of (get_or items i d)) (drop (i + 1) items)) (overlapping_choices (drop (i + 1) items)) old)
+    ∙ ap (λ l. noted (found E32 (overlapping_choices l)) old) (sym at)

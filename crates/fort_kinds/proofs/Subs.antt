@@ -1,9 +1,12 @@
 -- Subscripts, one after the other.
 use Rattle.std.proofs.Common.{◌≡◌, ℕ, suc, ◌+◌, ◌<◌, length, get_or, drop, drop-cons, add-one, Bool, true, false, ◌&&◌, cond, List, [], ◌∷◌, Option, None, Some, refl, sym, ap, subst, ◌∙◌}
 use Rattle.std.specs.Prelude.{not, nat_le}
+use Rattle.sound_programs.specs.KindFaults.{second_of_int}
 use Rattle.sound_programs.specs.RankFaults.{is_size}
+use Rattle.fort_kinds.specs.Cases.{nobody}
 use Rattle.sound_programs.specs.Walks.{count_of}
 use Rattle.std.proofs.lemmas.Bool.{false≢true}
+use Rattle.std.proofs.lemmas.Option.{slice_get-get_or}
 use denote.Enum.Bare.{same_true}
 use Rattle.fort_arith.specs.contracts.kind.Kind.{the_type as kind_type}
 use Rattle.fort_arith.specs.declared.kind.Kind.{Kind}
@@ -127,6 +130,14 @@ shared_next (Some shared) kind kinds = refl
 pub at_index : {A : Type 0} (items : List A) (i : ℕ) (a : A) → i < length items → a ≡ get_or items i a → drop i items ≡ a ∷ drop (i + 1) items
 at_index items i a within is = rw (add-one, drop-cons items i a) (ap (λ x. x ∷ drop (suc i) items) (sym is))
 
+same_item : {A : Type 0} (items : List A) (i : ℕ) (d e : A) → i < length items → get_or items i d ≡ get_or items i e
+same_item items i d e within =
+    let p : Some (get_or items i d) ≡ Some (get_or items i e) = sym (slice_get-get_or items i d within) ∙ slice_get-get_or items i e within in
+    cc
+
+pub at_any : {A : Type 0} (items : List A) (i : ℕ) (d : A) → i < length items → drop i items ≡ get_or items i d ∷ drop (i + 1) items
+at_any items i d within = at_index items i (get_or items i d) within (same_item items i d (get_or items i d) within)
+
 -- one more argument
 pub next_shared : (entity : Text → Entity) (items : List tree_sub.Sub) (i : ℕ) (s : tree_sub.Sub) → i < length items → s ≡ get_or items i s → (shared new : Option (Option Kind)) →
     new ≡ Some (shared_with shared (kind_of_one entity (placed_sub s))) →
@@ -153,3 +164,9 @@ size_of_many entity s t u rest =
     (λ l p a. of_sub (λ c. not (nat_le (count_of (c (placed_sub u (placed_subs rest)))) 1) ≡ true)
     (λ f. of_sub (λ d. not (nat_le (suc (count_of (d (placed_subs rest)))) 1) ≡ true) (λ g. refl) (λ lower upper at. refl) u)
     (λ lower upper at. of_sub (λ d. not (nat_le (suc (count_of (d (placed_subs rest)))) 1) ≡ true) (λ g. refl) (λ lower upper at. refl) u) t) s
+
+-- the second argument of INT is judged by itself
+pub second_same : (entity : Text → Entity) (args : Subscripts) → second_of_int nobody args ≡ second_of_int entity args
+second_same entity No_more = refl
+second_same entity (One e rest) = refl
+second_same entity (Section lower upper at rest) = refl

@@ -2,11 +2,12 @@
 ghost use Rattle.std.specs.Prelude.{◌≡◌, ◌∷◌, ◌||◌, ◌&&◌, not, nat_eq, nat_lt, length, List, Some, map, flat_map};
 ghost use Rattle.std.specs.Option.{option_copied, option_map};
 ghost use Rattle.claw_meaning.specs.Plain.{plain_decl};
-ghost use Rattle.claw_meaning.specs.Scope.{Entity, decl_named};
+ghost use Rattle.claw_meaning.specs.Scope.{decl_named};
 ghost use Rattle.claw_meaning.specs.Syntax.{Text};
 ghost use Rattle.fort_tree.specs.declared.fault.Code.TheVariants.{E32, E33};
 ghost use Rattle.sound_programs.specs.Faults.{found};
 ghost use Rattle.sound_programs.specs.KindFaults.{actual_differs, kind_fault_of_actual};
+ghost use Rattle.sound_programs.specs.Kinding.{kind as kind_meant};
 ghost use Rattle.sound_programs.specs.Placed.{Subscripts, first as first_place};
 ghost use Rattle.sound_programs.specs.Placing.{placed_expr, placed_sub, placed_subs};
 ghost use Rattle.sound_programs.specs.RankFaults.{is_array_reference as reference_test, is_rank_fault, rank_fault_of_actual};
@@ -22,7 +23,7 @@ use crate::rank_parts::takes_sections;
 use crate::ranking::rank_of;
 use crate::sites::Site;
 use fort_names::{Least, Sight};
-use fort_tree::{Code, Decl, Expr, Kind, Name, Named, Sub};
+use fort_tree::{Code, Decl, Expr, Name, Named, Sub};
 
 /// In what an actual argument is to fit its dummy.
 #[derive(Clone, Copy, Debug)]
@@ -43,10 +44,10 @@ fn find_decl<'a>(decls: &'a [Decl], name: &Name) -> Option<&'a Decl>
     None
 }
 
-fn kind_differs(kind: Option<Kind>, dummy: Option<&Decl>) -> bool
-    ensures { (entity : Text → Entity) → result ≡ actual_differs entity kind (option_map plain_decl (option_copied dummy.entry)) }
+fn kind_differs(sight: &Sight, expr: &Expr, dummy: Option<&Decl>) -> bool
+    ensures { result ≡ actual_differs (means sight.now) (kind_meant (means sight.now) (placed_expr expr.now)) (option_map plain_decl (option_copied dummy.entry)) }
 {
-    match kind {
+    match kind_of(sight, expr) {
         None => false,
         Some(kind) => match dummy {
             None => false,
@@ -90,7 +91,7 @@ fn note_expr(least: &mut Least, sight: &Sight, fit: Fit, expr: &Expr, dummy: Opt
 {
     match fit {
         Fit::Kind => {
-            let differs = kind_differs(kind_of(sight, expr), dummy);
+            let differs = kind_differs(sight, expr, dummy);
             least.note_if(differs, Code::E32, first(expr));
         }
         Fit::Rank => {

@@ -3,17 +3,15 @@ ghost use Rattle.std.specs.Prelude.{◌≡◌, ◌∷◌, ◌++◌, [], Some, ma
 ghost use Rattle.std.specs.Option.{option_to_list};
 ghost use Rattle.fort_tree.specs.declared.fault.Code.TheVariants.{E32};
 ghost use Rattle.sound_programs.specs.Faults.{found};
-ghost use Rattle.sound_programs.specs.KindFaults.{is_case_fault as case_test, case_fault, edge as edge_value, numbers_in as numbers_meant, is_below as below_test, numbers_between as between_meant, overlap as overlap_test, first_value as first_meant, values_of, needs_of_step};
+ghost use Rattle.sound_programs.specs.KindFaults.{case_value as case_number, is_case_fault as case_test, case_fault, edge as edge_value, is_below as below_test, overlap as overlap_test, values_of, needs_of_step};
 ghost use Rattle.sound_programs.specs.Places.{option_places};
 ghost use Rattle.sound_programs.specs.Placing.{placed_expr, placed_option, placed_range};
 ghost use Rattle.sound_programs.specs.Walks.{ranges_of as ranges_meant};
 ghost use Rattle.unit_steps.specs.Acts.{cases_placed};
 ghost use Rattle.fort_names.specs.Leasts.{noted};
 ghost use Rattle.sound_programs.specs.Walks.{Chooses};
-ghost use Rattle.fort_kinds.specs.Cases.{choice_of as choice_meant, first_or_none, nobody, overlaps_of, overlapping_choices, placed_ranges};
+ghost use Rattle.fort_kinds.specs.Cases.{between, choice_of as choice_meant, nobody, numbers_of, overlaps_of, overlapping_choices, placed_ranges, value_place};
 ghost use Rattle.fort_names.specs.Sights.{means};
-ghost use Rattle.claw_meaning.specs.Scope.{Entity};
-ghost use Rattle.claw_meaning.specs.Syntax.{Text};
 
 use crate::kinding::kind_of;
 use crate::needs::{Need, note_at, note_need};
@@ -32,14 +30,14 @@ pub struct Choice {
     pub at: Option<Place>,
 }
 
-fn is_case_fault(kind: Option<Kind>, value: Option<i128>) -> bool
-    ensures { (entity : Text → Entity) → result ≡ case_test entity kind value }
+fn is_case_fault(sight: &Sight, kind: Option<Kind>, value: &Expr) -> bool
+    ensures { result ≡ case_test (means sight.now) kind (case_number (means sight.now) (placed_expr value.now)) }
 {
-    match value {
+    match case_value(sight, value) {
         None => true,
-        Some(value) => match kind {
+        Some(number) => match kind {
             None => false,
-            Some(kind) => kind.is_whole() && !in_kind(kind, value),
+            Some(kind) => kind.is_whole() && !in_kind(kind, number),
         },
     }
 }
@@ -48,7 +46,7 @@ fn is_case_fault(kind: Option<Kind>, value: Option<i128>) -> bool
 fn note_case_value(least: &mut Least, sight: &Sight, kind: Option<Kind>, value: &Expr)
     ensures { least.new ≡ noted (found E32 (case_fault (means sight.now) kind (placed_expr value.now))) least.old }
 {
-    let fault = is_case_fault(kind, case_value(sight, value));
+    let fault = is_case_fault(sight, kind, value);
     least.note_if(fault, Code::E32, first(value));
 }
 
@@ -119,7 +117,7 @@ fn edge(sight: &Sight, limit: &Option<Expr>) -> Option<Option<i128>>
 }
 
 fn numbers_between(lower: Option<Option<i128>>, upper: Option<Option<i128>>) -> Option<Numbers>
-    ensures { (entity : Text → Entity) → result ≡ first_or_none (between_meant entity lower upper) }
+    ensures { result ≡ between lower upper }
 {
     match (lower, upper) {
         (Some(lower), Some(upper)) => Some((lower, upper)),
@@ -129,7 +127,7 @@ fn numbers_between(lower: Option<Option<i128>>, upper: Option<Option<i128>>) -> 
 }
 
 fn numbers_in(sight: &Sight, range: &Range) -> Option<Numbers>
-    ensures { result ≡ first_or_none (numbers_meant (means sight.now) (placed_range range.now)) }
+    ensures { result ≡ numbers_of (means sight.now) (placed_range range.now) }
 {
     match range {
         Range::One(value) => {
@@ -141,7 +139,7 @@ fn numbers_in(sight: &Sight, range: &Range) -> Option<Numbers>
 }
 
 fn first_value(range: &Range) -> Option<Place>
-    ensures { (entity : Text → Entity) → result ≡ first_or_none (first_meant entity (placed_range range.now)) }
+    ensures { result ≡ value_place (placed_range range.now) }
 {
     match range {
         Range::One(value) => Some(first(value)),

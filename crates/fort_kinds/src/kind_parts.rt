@@ -3,8 +3,6 @@ ghost use Rattle.std.specs.Prelude.{◌≡◌, ◌++◌, flat_map};
 ghost use Rattle.fort_tree.specs.declared.fault.Code.TheVariants.{E32};
 ghost use Rattle.fort_tree.specs.Intrinsic.{intrinsic_named};
 ghost use Rattle.fort_arith.specs.declared.op.Intrinsic.TheVariants.{Int};
-ghost use Rattle.claw_meaning.specs.Syntax.{Text};
-ghost use Rattle.claw_meaning.specs.Scope.{Entity};
 ghost use Rattle.sound_programs.specs.Faults.{found};
 ghost use Rattle.sound_programs.specs.KindFaults.{literal_fault, needs_integer, first_argument, needs_of_operator, needs_of_sign, second_of_int, kinds_differ_or_logical, kind_faults_of_intrinsic, kind_faults_of_array, kind_faults_of_reference, kind_faults_of_part};
 ghost use Rattle.sound_programs.specs.Placed.{Numeral, after_first};
@@ -13,6 +11,7 @@ ghost use Rattle.sound_programs.specs.Scopes.{is_array as array_test};
 ghost use Rattle.sound_programs.specs.Walks.{section_bounds};
 ghost use Rattle.fort_names.specs.Leasts.{noted};
 ghost use Rattle.fort_names.specs.Sights.{means};
+ghost use Rattle.fort_kinds.specs.Cases.{nobody};
 
 use crate::differing::differing_kind;
 use crate::kinding::{kind_named_by, or_default};
@@ -72,7 +71,7 @@ fn note_signed(least: &mut Least, sight: &Sight, sign: Unary, operand: &Expr)
 
 /// Notes a second argument of INT that names no kind.
 fn note_second(least: &mut Least, behind: &[Sub])
-    ensures { (entity : Text → Entity) → least.new ≡ noted (found E32 (second_of_int entity (placed_subs behind.now))) least.old }
+    ensures { least.new ≡ noted (found E32 (second_of_int nobody (placed_subs behind.now))) least.old }
 {
     match behind.first() {
         None => {}
@@ -94,7 +93,7 @@ fn note_first_argument(least: &mut Least, sight: &Sight, args: &[Sub])
 }
 
 fn note_behind_first(least: &mut Least, args: &[Sub])
-    ensures { (entity : Text → Entity) → least.new ≡ noted (found E32 (second_of_int entity (after_first (placed_subs args.now)))) least.old }
+    ensures { least.new ≡ noted (found E32 (second_of_int nobody (after_first (placed_subs args.now)))) least.old }
 {
     match args.split_first() {
         None => {}
@@ -103,7 +102,7 @@ fn note_behind_first(least: &mut Least, args: &[Sub])
     }
 }
 
-#[tactic(auto, using(fort_names::proofs::FirstOf::noted_places))]
+#[tactic(auto, using(fort_names::proofs::FirstOf::noted_places, crate::proofs::Subs::second_same))]
 fn note_int(least: &mut Least, sight: &Sight, args: &[Sub])
     ensures { least.new ≡ noted (found E32 (kind_faults_of_intrinsic (means sight.now) Int (placed_subs args.now))) least.old }
 {

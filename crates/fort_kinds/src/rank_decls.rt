@@ -1,5 +1,5 @@
 //! Faults of ranks in declarations.
-ghost use Rattle.std.specs.Prelude.{◌≡◌, ◌∷◌, ◌&&◌, ◌||◌, [], not, map, flat_map, nat_lt, length};
+ghost use Rattle.std.specs.Prelude.{◌≡◌, ◌∷◌, ◌&&◌, ◌||◌, [], not, is_none, is_some, map, flat_map, nat_lt, length};
 ghost use Rattle.fort_tree.specs.declared.fault.Code.TheVariants.{E33};
 ghost use Rattle.std.specs.Str.{bytes_eq};
 ghost use Rattle.sound_programs.specs.Faults.{found};
@@ -39,18 +39,44 @@ fn note_above(least: &mut Least, mode: Mode, decls: &[Decl])
     }
 }
 
-#[tactic(auto, using(crate::proofs::Decls::assumed_is))]
+fn has_no_upper(bound: &Bound) -> bool
+    ensures { result ≡ is_none (placed_bound bound.now).upper }
+{
+    match &bound.upper {
+        None => true,
+        Some(_) => false,
+    }
+}
+
+fn has_upper(bound: &Bound) -> bool
+    ensures { result ≡ is_some (placed_bound bound.now).upper }
+{
+    match &bound.upper {
+        None => false,
+        Some(_) => true,
+    }
+}
+
 fn has_assumed(decl: &Decl) -> bool
     ensures { result ≡ assumed_test (placed_decl decl.now) }
 {
-    decl.shape.items().iter().any(|bound| bound.upper.is_none())
+    for bound in decl.shape.items() {
+        if has_no_upper(bound) {
+            return true;
+        }
+    }
+    false
 }
 
-#[tactic(auto, using(crate::proofs::Decls::explicit_is))]
 fn has_explicit(decl: &Decl) -> bool
     ensures { result ≡ explicit_test (placed_decl decl.now) }
 {
-    decl.shape.items().iter().any(|bound| bound.upper.is_some())
+    for bound in decl.shape.items() {
+        if has_upper(bound) {
+            return true;
+        }
+    }
+    false
 }
 
 fn is_dummy(holder: &Holder, name: &Name) -> bool

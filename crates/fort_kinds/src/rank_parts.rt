@@ -2,13 +2,11 @@
 ghost use Rattle.std.specs.Prelude.{◌≡◌, ◌&&◌, ◌++◌, [], not, is_none, nat_eq, flat_map, if◌then◌else◌};
 ghost use Rattle.fort_tree.specs.declared.fault.Code.TheVariants.{E33};
 ghost use Rattle.fort_tree.specs.Intrinsic.{intrinsic_named};
-ghost use Rattle.claw_meaning.specs.Syntax.{Text};
-ghost use Rattle.claw_meaning.specs.Scope.{Entity};
 ghost use Rattle.sound_programs.specs.Faults.{found};
 ghost use Rattle.sound_programs.specs.Placed.{Reference, Subscripts, No_more};
 ghost use Rattle.sound_programs.specs.Placing.{placed_expr, placed_sub, placed_subs};
 ghost use Rattle.sound_programs.specs.RankFaults.{needs_scalar, takes_sections as sections_test, is_array_name as array_name_test, is_dimension as dimension_test, is_size as size_test, is_sum as sum_test, is_intrinsic_use as use_test, is_used_well as used_test, own_lists, differing_in_each, rank_faults_of_part};
-ghost use Rattle.sound_programs.specs.Ranking.{rank_of_entity};
+ghost use Rattle.sound_programs.specs.Ranking.{rank, rank_of_entity};
 ghost use Rattle.sound_programs.specs.Scopes.{is_array as array_test};
 ghost use Rattle.sound_programs.specs.Walks.{count_of as length_of, single_subscripts, section_bounds, section_places};
 ghost use Rattle.fort_names.specs.Leasts.{noted};
@@ -56,12 +54,15 @@ fn is_array_name(sight: &Sight, expr: &Expr) -> bool
     }
 }
 
-/// Whether it is a literal that is one of so many dimensions.
-fn is_dimension(expr: &Expr, rank: usize) -> bool
-    ensures { (entity : Text → Entity) → result ≡ dimension_test entity (placed_expr expr.now) rank }
+/// Whether the second is a literal that is one of the dimensions of the first.
+fn is_dimension(sight: &Sight, array: &Expr, along: &Expr) -> bool
+    ensures { result ≡ dimension_test (means sight.now) (placed_expr along.now) (rank (means sight.now) (placed_expr array.now)) }
 {
-    match expr {
-        Expr::Number(number, _, _) => 1 <= *number && *number <= rank as u64,
+    match along {
+        Expr::Number(number, _, _) => {
+            let dimensions = rank_of(sight, array);
+            1 <= *number && *number <= dimensions as u64
+        }
         Expr::Truth(..)
         | Expr::Ref(_, None, _)
         | Expr::Ref(_, Some(_), _)
@@ -71,11 +72,23 @@ fn is_dimension(expr: &Expr, rank: usize) -> bool
     }
 }
 
+fn is_list_name(sight: &Sight, array: &Expr) -> bool
+    ensures { result ≡ (array_name_test (means sight.now) (placed_expr array.now) && nat_eq (rank (means sight.now) (placed_expr array.now)) 1) }
+{
+    is_array_name(sight, array) && rank_of(sight, array) == 1
+}
+
+fn is_dimension_of(sight: &Sight, array: &Expr, along: &Expr) -> bool
+    ensures { result ≡ (array_name_test (means sight.now) (placed_expr array.now) && dimension_test (means sight.now) (placed_expr along.now) (rank (means sight.now) (placed_expr array.now))) }
+{
+    is_array_name(sight, array) && is_dimension(sight, array, along)
+}
+
 fn is_size_of(sight: &Sight, array: &Sub) -> bool
     ensures { result ≡ size_test (means sight.now) (placed_sub array.now No_more) }
 {
     match array {
-        Sub::One(expr) => is_array_name(sight, expr) && rank_of(sight, expr) == 1,
+        Sub::One(expr) => is_list_name(sight, expr),
         Sub::Range(..) => false,
     }
 }
@@ -84,9 +97,7 @@ fn is_size_along(sight: &Sight, array: &Sub, along: &Sub) -> bool
     ensures { result ≡ size_test (means sight.now) (placed_sub array.now (placed_sub along.now No_more)) }
 {
     match (array, along) {
-        (Sub::One(array), Sub::One(along)) => {
-            is_array_name(sight, array) && is_dimension(along, rank_of(sight, array))
-        }
+        (Sub::One(array), Sub::One(along)) => is_dimension_of(sight, array, along),
         (Sub::One(_), Sub::Range(..)) => false,
         (Sub::Range(..), Sub::One(_)) => false,
         (Sub::Range(..), Sub::Range(..)) => false,

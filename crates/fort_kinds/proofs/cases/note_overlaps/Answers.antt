@@ -1,10 +1,10 @@
-use Rattle.std.proofs.Common.{◌<◌, length, arith, refl, ap, ◌∙◌}
-use Rattle.fort_kinds.specs.Cases.{overlaps_of}
-use Rattle.fort_names.proofs.FirstOf.{next_places}
-use Rattle.fort_names.specs.Leasts.{noted}
+use Rattle.std.proofs.Common.{◌<◌, length, refl, ap, ◌∙◌, arith}
+use Rattle.std.specs.Prelude.{flat_map}
 use Rattle.fort_tree.specs.declared.fault.Code.TheVariants.{E32}
 use Rattle.sound_programs.specs.Faults.{found}
-use Rattle.std.specs.Prelude.{flat_map}
+use Rattle.fort_names.specs.Leasts.{noted}
+use Rattle.fort_kinds.specs.Cases.{overlaps_of}
+use Rattle.fort_kinds.proofs.Places.{next_at}
 use Rattle.fort_kinds.proofs.cases.note_overlaps.Goals as goal
 
 -- src/cases.rt
@@ -12,5 +12,5 @@ pub loop-other-preserved : goal.loop-other-preserved
 loop-other-preserved c =
     let items = c.args.others.now in
     let within : c.loop-other.other-index < length items = omega arith in
-    next_places E32 (λ l. flat_map (overlaps_of c.args.one.now) l) (λ a. overlaps_of c.args.one.now a) (λ a l. refl) items c.loop-other.other-index c.other-item.result within c.other-item.is c.loop-other.least c.note_at.new.least
+    next_at E32 (λ l. flat_map (overlaps_of c.args.one.now) l) (overlaps_of c.args.one.now) (λ a l. refl) items c.loop-other.other-index _ within c.loop-other.least c.note_at.new.least
     (c.note_at.ensures ∙ ap (λ l. noted (found E32 l) c.loop-other.least) c.overlap_of.ensures) ∙ c.loop-other.invariant
