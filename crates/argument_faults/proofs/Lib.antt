@@ -1,0 +1,3 @@
+pub mod WritesAre
+pub mod Merging
+pub mod ModuleWritesAre
