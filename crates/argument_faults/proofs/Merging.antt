@@ -61,17 +61,18 @@ before_between a b c e h =
     (sym (order_is a c) ∙ e) (sym (order_is b c) ∙ h)
 
 -- the least of three, from either side
-three : (a m y : Found) (p q r : Bool) → is_before y m ≡ p → is_before m a ≡ q → is_before y a ≡ r
-    → (if is_before (if is_before y m then y else m) a then (if is_before y m then y else m) else a) ≡ (if is_before y (if is_before m a then m else a) then y else (if is_before m a then m else a))
-three a m y true true r e h k = grind (arith, e, h, before_chain y m a)
-three a m y true false r e h k = grind (arith, e, h)
-three a m y false true r e h k = grind (arith, e, h)
-three a m y false false true e h k = absurd (false≢true (sym e ∙ before_between y m a k h))
-three a m y false false false e h k = grind (arith, e, h, k)
+three : (before : Found → Found → Bool) → ((a b c : Found) → before a b ≡ true → before b c ≡ true → before a c ≡ true) → ((a b c : Found) → before a c ≡ true → before b c ≡ false → before a b ≡ true)
+    → (a m y : Found) (p q r : Bool) → before y m ≡ p → before m a ≡ q → before y a ≡ r
+    → (if before (if before y m then y else m) a then (if before y m then y else m) else a) ≡ (if before y (if before m a then m else a) then y else (if before m a then m else a))
+three before chain between a m y true true r e h k = grind (arith, e, h, chain y m a)
+three before chain between a m y true false r e h k = grind (arith, e, h)
+three before chain between a m y false true r e h k = grind (arith, e, h)
+three before chain between a m y false false true e h k = absurd (false≢true (sym e ∙ between y m a k h))
+three before chain between a m y false false false e h k = grind (arith, e, h, k)
 
 note_lesser : (r : Option Found) (m y : Found) → note r (if is_before y m then y else m) ≡ note (note r m) y
 note_lesser None m y = refl
-note_lesser (Some a) m y = ap Some (three a m y (is_before y m) (is_before m a) (is_before y a) refl refl refl)
+note_lesser (Some a) m y = ap Some (three is_before before_chain before_between a m y (is_before y m) (is_before m a) (is_before y a) refl refl refl)
 
 merge_from : (m : Found) (xs : List Found) (r : Option Found) → noted (option_to_list (noted xs (Some m))) r ≡ noted xs (note r m)
 merge_from m [] r = refl

@@ -53,7 +53,7 @@ module _ (entity : Text → Entity) (unit : Text) where
   in_option (Some e) = in_one e
 
   abbrev names_of : List Actual → List Named
-  names_of list = flat_map (λ a. flat_map name_in (option_to_list a.expr)) (filter is_written list)
+  names_of list = flat_map (λ (a : Actual). flat_map name_in (option_to_list a.expr)) (filter is_written list)
 
   of_actuals : (list : List Actual) → flat_map (named_by_actual entity unit) list ≡ places_where of_module (names_of list)
   of_actuals [] = refl
@@ -61,14 +61,14 @@ module _ (entity : Text → Entity) (unit : Text) where
     where
       go : (b : Bool) → flat_map (named_by_actual entity unit) list ≡ places_where of_module (names_of list)
           → (if b then named_on_left entity unit (option_to_list a.expr) else []) ++ flat_map (named_by_actual entity unit) list
-          ≡ places_where of_module (flat_map (λ c. flat_map name_in (option_to_list c.expr)) (cond b (a ∷ filter is_written list) (filter is_written list)))
+          ≡ places_where of_module (flat_map (λ (c : Actual). flat_map name_in (option_to_list c.expr)) (cond b (a ∷ filter is_written list) (filter is_written list)))
       go true h = (λ i. in_option a.expr i ++ h i) ∙ sym (places_append of_module (flat_map name_in (option_to_list a.expr)) (names_of list))
       go false h = h
 
   names_append : (list others : List Actual) → names_of (list ++ others) ≡ names_of list ++ names_of others
   names_append list others =
-      ap (flat_map (λ a. flat_map name_in (option_to_list a.expr))) (filter-append is_written list others)
-      ∙ flat_map-append (λ a. flat_map name_in (option_to_list a.expr)) (filter is_written list) (filter is_written others)
+      ap (flat_map (λ (a : Actual). flat_map name_in (option_to_list a.expr))) (filter-append is_written list others)
+      ∙ flat_map-append (λ (a : Actual). flat_map name_in (option_to_list a.expr)) (filter is_written list) (filter is_written others)
 
   at_sites : (ss : List Site) → flat_map (named_at entity unit) ss ≡ places_where of_module (names_of (flat_map (actuals entity) ss))
   at_sites [] = refl

@@ -92,5 +92,5 @@ filtered test (d ∷ ds) = go (test (placed_decl d)) (filtered test ds)
 pub dummies_are : (u : tree_unit.Unit) (r : Option Named) → u.result ≡ r
     → function_dummies (placed_unit u) ≡ (if is_some r then places_at (is_written_dummy u.dummies) (λ d. d.at) u.decls else [])
 dummies_are u r e =
-    ap (λ o. if is_some o then map (λ d. d.at) (filter (λ (d : Placed_decl). is_dummy (Of_unit (placed_unit u)) d.name && is_written_intent d.intent) (map placed_decl u.decls)) else []) e
+    ap (λ (o : Option Named). if is_some o then map (λ d. d.at) (filter (λ (d : Placed_decl). is_dummy (Of_unit (placed_unit u)) d.name && is_written_intent d.intent) (map placed_decl u.decls)) else []) e
     ∙ ap (λ l. if is_some r then l else []) (filtered (λ (d : Placed_decl). is_dummy (Of_unit (placed_unit u)) d.name && is_written_intent d.intent) u.decls)
