@@ -1,16 +1,15 @@
--- A program of which nothing is unbuilt is one unit of column scalars, or none.
-use Rattle.std.proofs.Common.{◌≡◌, ◌<◌, Bool, true, false, List, [], ◌∷◌, ◌++◌, map, length, refl, sym, ap, ◌∙◌, subst, ◌⊎◌, inl, inr}
+-- A unit of which nothing is unbuilt is one of column scalars.
+use Rattle.std.proofs.Common.{◌≡◌, ◌<◌, Bool, true, false, List, [], ◌∷◌, ◌++◌, map, length, refl, sym, ap, ◌∙◌, subst}
 use Rattle.std.specs.List.{list_all, flat_map}
 use Rattle.std.proofs.lemmas.List.Folds.{list_all-map}
 use Rattle.fort_tree.specs.declared.place.Place.{Place}
 use Rattle.fort_tree.specs.declared.stmt.Directive.{Directive}
-use Rattle.fort_tree.specs.declared.unit.File.{File}
 use Rattle.fort_tree.specs.declared.unit.Unit as tree
 use Rattle.claw_meaning.specs.Plain.{plain_unit, plain_decl, plain_directive, plain_stmt}
 use Rattle.column_scalars.specs.Widened.{HasDimension, Dimensioned}
 use Rattle.scalar_units.specs.Units.{is_header, is_declaration, is_define, is_parallelize, is_assignment}
-use Rattle.scalar_units.specs.Unbuilt.{unless, of_decls, of_body, of_marks, of_unit, of_units, unbuilt, place_of}
-use Rattle.scalar_units.specs.Scalars.{IsScalarsUnit, OneUnit}
+use Rattle.scalar_units.specs.Unbuilt.{unless, of_decls, of_body, of_marks, of_unit, place_of}
+use Rattle.scalar_units.specs.Scalars.{IsScalarsUnit}
 use Rattle.scalar_units.proofs.Scalars.{Passes, scalars_of, passes_are_scalars, passes_are_source, one_name}
 
 -- ---- lists of places without an item
@@ -18,15 +17,15 @@ use Rattle.scalar_units.proofs.Scalars.{Passes, scalars_of, passes_are_scalars, 
 no_item : {A : Type 0} (x : A) (xs : List A) → x ∷ xs ≡ [] → ⊥
 no_item x xs e = cc
 
-parts_empty : {A : Type 0} (xs ys : List A) → xs ++ ys ≡ [] → (xs ≡ []) × (ys ≡ [])
+pub parts_empty : {A : Type 0} (xs ys : List A) → xs ++ ys ≡ [] → (xs ≡ []) × (ys ≡ [])
 parts_empty [] ys e = (refl, e)
 parts_empty (x ∷ xs) ys e = absurd (no_item x (xs ++ ys) e)
 
-map_empty : {A B : Type 0} (f : A → B) (xs : List A) → map f xs ≡ [] → xs ≡ []
+pub map_empty : {A B : Type 0} (f : A → B) (xs : List A) → map f xs ≡ [] → xs ≡ []
 map_empty f [] e = refl
 map_empty f (x ∷ xs) e = absurd (no_item (f x) (map f xs) e)
 
-holds : (b : Bool) (at : Place) → unless b at ≡ [] → b ≡ true
+pub holds : (b : Bool) (at : Place) → unless b at ≡ [] → b ≡ true
 holds true at e = refl
 holds false at e = absurd (no_item at [] e)
 
@@ -82,15 +81,3 @@ built_unit u e =
       where
         has : (d : Directive) (more ms : List Directive) → d ∷ more ≡ ms → 0 < length d.names → Dimensioned ms
         has d more ms is some = subst Dimensioned is some
-
-pub built_is : (file : File) → unbuilt file ≡ [] → (file.modules ≡ []) × ((file.units ≡ []) ⊎ ((u : tree.Unit) × OneUnit file u × IsScalarsUnit u × HasDimension u))
-built_is file e =
-    let parts = parts_empty (map (λ m. m.at) file.modules) (of_units file.units) e in
-    (map_empty (λ m. m.at) file.modules parts.0, go file.units parts.1)
-  where
-    go : (us : List tree.Unit) → of_units us ≡ [] → (us ≡ []) ⊎ ((u : tree.Unit) × (us ≡ u ∷ []) × IsScalarsUnit u × HasDimension u)
-    go [] e = inl refl
-    go (u ∷ us) e =
-        let parts = parts_empty (of_unit u) (map (λ v. v.at) us) e in
-        let built = built_unit u parts.0 in
-        inr (u, ap (λ (vs : List tree.Unit). u ∷ vs) (map_empty (λ v. v.at) us parts.1), built.0, built.1)

@@ -10,7 +10,7 @@ use Rattle.scalar_units.specs.Unbuilt.{is_earlier, note, noted, IsFirst}
 
 -- ---- parts of a list, one after the other
 
-noted_append : (xs ys : List Place) (r : Option Place) → noted (xs ++ ys) r ≡ noted ys (noted xs r)
+pub noted_append : (xs ys : List Place) (r : Option Place) → noted (xs ++ ys) r ≡ noted ys (noted xs r)
 noted_append [] ys r = refl
 noted_append (x ∷ xs) ys r = noted_append xs ys (note r x)
 

@@ -1,12 +1,8 @@
 -- Trees of column scalars.
-use Rattle.std.specs.Prelude.{◌≡◌, [], ◌∷◌}
-use Rattle.fort_tree.specs.declared.unit.File.{File}
+use Rattle.std.specs.Prelude.{◌≡◌}
 use Rattle.fort_tree.specs.declared.unit.Unit.{Unit as TreeUnit}
 use Rattle.claw_meaning.specs.Plain.{plain_unit}
 use Rattle.column_scalars.specs.Scalars.{Scalars, IsScalars, source_unit}
-
-abbrev pub OneUnit : File → TreeUnit → Type 0
-OneUnit file u = file.units ≡ u ∷ []
 
 -- the unit's plain tree is that of column scalars
 pub record IsScalarsUnit (u : TreeUnit) : Type 0 where

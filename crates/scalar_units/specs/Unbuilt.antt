@@ -1,4 +1,4 @@
--- Where a program isn't one unit of column scalars.
+-- Where a unit isn't one of column scalars.
 use Rattle.std.specs.Prelude.{◌≡◌, Bool, true, false, not, ◌&&◌, ◌||◌, nat_lt, nat_eq, List, [], ◌∷◌, ◌++◌, map, Option, None, Some, cond}
 use Rattle.std.specs.List.{list_all, flat_map, Contains}
 use Rattle.fort_tree.specs.declared.place.Place.{Place}
@@ -6,7 +6,6 @@ use Rattle.fort_tree.specs.declared.stmt.Directive.{Directive}
 use Rattle.fort_tree.specs.declared.stmt.Stmt.{Stmt, out-Stmt}
 use Rattle.fort_tree.specs.declared.stmt.Stmt.TheOpen.{Stmt-F}
 use Rattle.fort_tree.specs.declared.unit.Decl.{Decl}
-use Rattle.fort_tree.specs.declared.unit.File.{File}
 use Rattle.fort_tree.specs.declared.unit.Unit as tree
 use Rattle.fort_tree.specs.Unplaced.{nowhere}
 use Rattle.claw_meaning.specs.Plain.{plain_unit, plain_decl, plain_directive, plain_stmt}
@@ -50,15 +49,6 @@ of_marks u (d ∷ p ∷ q ∷ more) = q.at ∷ []
 abbrev pub of_unit : tree.Unit → List Place
 of_unit u =
     unless (is_header (plain_unit u)) u.at ++ (map (λ line. line.at) u.uses ++ (of_decls u u.decls ++ (of_marks u u.marks ++ of_body u u.body)))
-
--- the first unit, and the headers of all others
-abbrev pub of_units : List tree.Unit → List Place
-of_units [] = []
-of_units (u ∷ us) = of_unit u ++ map (λ v. v.at) us
-
--- The places of a program, in the order of its tree, that keep it from being one unit of column scalars.
-abbrev pub unbuilt : File → List Place
-unbuilt file = map (λ m. m.at) file.modules ++ of_units file.units
 
 -- the first stands before the second: by file, then line, then column
 abbrev pub is_earlier : Place → Place → Bool

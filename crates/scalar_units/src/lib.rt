@@ -1,6 +1,6 @@
-//! Which programs are one unit of column scalars, and where the others aren't.
+//! Which units are units of column scalars, and where the others aren't.
 //!
-//! The unit is what `column_scalars` makes for all columns: a subroutine whose dummies are default INTEGER scalars, each a column's own, and whose statements assign
+//! Such a unit is what `column_scalars` makes for all columns: a subroutine whose dummies are default INTEGER scalars, each a column's own, and whose statements assign
 //! sums of products of dummies and numbers to dummies. This part of the language is this project's own step on the way to the whole.
 #![tactic(auto)]
 
@@ -12,7 +12,7 @@ mod sums;
 mod unbuilt;
 
 pub use laws::built_units_are_column_scalars;
-pub use unbuilt::first_unbuilt;
+pub use unbuilt::{note, note_unit, note_unless};
 
 #[cfg(test)]
 mod tests;

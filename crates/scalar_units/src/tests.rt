@@ -1,7 +1,7 @@
-use crate::{built_units_are_column_scalars, first_unbuilt};
+use crate::{built_units_are_column_scalars, note_unit};
 use fort_tree::{
-    Boxed, Decl, Directive, DirectiveWord, Expr, File, Intent, Item, Kind, Name, Named, Op, Place,
-    Seq, Stmt, Unit,
+    Boxed, Decl, Directive, DirectiveWord, Expr, Intent, Kind, Name, Named, Op, Place, Seq, Stmt,
+    Unit,
 };
 use std::alloc::Global;
 use std::test::Fail;
@@ -75,7 +75,7 @@ fn statement(alloc: Global, op: Op) -> Option<Stmt> {
 }
 
 /// A file of one subroutine of `a`, declared with the kind, with the one statement.
-fn file(alloc: Global, kind: Kind, op: Op) -> Option<File> {
+fn unit(alloc: Global, kind: Kind, op: Op) -> Option<Unit> {
     let dummy = Named {
         name: name(b"a")?,
         at: at(1),
@@ -88,7 +88,7 @@ fn file(alloc: Global, kind: Kind, op: Op) -> Option<File> {
         shape: Seq::new(alloc),
         value: None,
     };
-    let unit = Unit {
+    Some(Unit {
         name: name(b"f")?,
         at: at(1),
         dummies: one(alloc, dummy)?,
@@ -98,29 +98,24 @@ fn file(alloc: Global, kind: Kind, op: Op) -> Option<File> {
         marks: marks(alloc)?,
         body: one(alloc, statement(alloc, op)?)?,
         host: None,
-    };
-    Some(File {
-        modules: Seq::new(alloc),
-        units: one(alloc, unit)?,
-        order: one(alloc, Item::Unit(0))?,
     })
 }
 
-fn line_of(file: Option<File>) -> Option<u32> {
-    let file = file?;
-    match first_unbuilt(&file) {
+fn line_of(unit: Option<Unit>) -> Option<u32> {
+    let unit = unit?;
+    match note_unit(None, &unit) {
         None => Some(0),
         Some(place) => Some(place.line),
     }
 }
 
-/// The line at which each file isn't one of column scalars, or 0.
+/// The line at which each unit isn't one of column scalars, or 0.
 #[test]
-fn files_are_judged_at_their_first_line(rt: HostRuntime) -> Result<(), Fail> {
+fn units_are_judged_at_their_first_line(rt: HostRuntime) -> Result<(), Fail> {
     let alloc = rt.alloc();
     built_units_are_column_scalars();
-    assert_eq!(rt; line_of(file(alloc, Kind::I4, Op::Mul)), Some(0));
-    assert_eq!(rt; line_of(file(alloc, Kind::I4, Op::Div)), Some(4));
-    assert_eq!(rt; line_of(file(alloc, Kind::I8, Op::Div)), Some(2));
+    assert_eq!(rt; line_of(unit(alloc, Kind::I4, Op::Mul)), Some(0));
+    assert_eq!(rt; line_of(unit(alloc, Kind::I4, Op::Div)), Some(4));
+    assert_eq!(rt; line_of(unit(alloc, Kind::I8, Op::Div)), Some(2));
     Ok(())
 }

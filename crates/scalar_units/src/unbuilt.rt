@@ -1,11 +1,11 @@
-//! The first place that keeps a program from being one unit of column scalars.
-ghost use Rattle.std.specs.Prelude.{◌≡◌, [], map, MatchOption};
-ghost use Rattle.scalar_units.specs.Unbuilt.{IsFirst, unbuilt, of_units, of_unit, of_decls, of_body, of_marks, unless as unless_at, is_earlier as earlier_test, note as note_one, noted, place_of as place_of_statement};
+//! The first place that keeps a unit from being one of column scalars.
+ghost use Rattle.std.specs.Prelude.{◌≡◌, map};
+ghost use Rattle.scalar_units.specs.Unbuilt.{of_unit, of_decls, of_body, of_marks, unless as unless_at, is_earlier as earlier_test, note as note_one, noted, place_of as place_of_statement};
 
 use crate::header::{is_declaration, is_header};
 use crate::marks::{is_define, is_parallelize};
 use crate::sums::is_assignment;
-use fort_tree::{File, Module, Place, Stmt, Unit, Use};
+use fort_tree::{Place, Stmt, Unit, Use};
 
 const NOWHERE: Place = Place {
     file: 0,
@@ -22,8 +22,8 @@ fn is_earlier(at: Place, other: Place) -> bool
             && (at.line < other.line || (at.line == other.line && at.column < other.column)))
 }
 
-/// The first place so far, after one more.
-fn note(least: Option<Place>, at: Place) -> Option<Place>
+/// The first place so far, after one more: by file, line and column.
+pub fn note(least: Option<Place>, at: Place) -> Option<Place>
     ensures { result ≡ note_one least at }
 {
     match least {
@@ -35,7 +35,8 @@ fn note(least: Option<Place>, at: Place) -> Option<Place>
     }
 }
 
-fn note_unless(least: Option<Place>, holds: bool, at: Place) -> Option<Place>
+/// The first place so far, after one more where the test fails.
+pub fn note_unless(least: Option<Place>, holds: bool, at: Place) -> Option<Place>
     ensures { result ≡ noted (unless_at holds at) least }
 {
     if holds { least } else { note(least, at) }
@@ -57,32 +58,12 @@ fn place_of(stmt: &Stmt) -> Place
     }
 }
 
-fn note_modules(least: Option<Place>, modules: &[Module]) -> Option<Place>
-    ensures { result ≡ noted (map (λ m. m.at) modules.now) least }
-{
-    let mut least = least;
-    for module in modules {
-        least = note(least, module.at);
-    }
-    least
-}
-
 fn note_uses(least: Option<Place>, uses: &[Use]) -> Option<Place>
     ensures { result ≡ noted (map (λ line. line.at) uses.now) least }
 {
     let mut least = least;
     for line in uses {
         least = note(least, line.at);
-    }
-    least
-}
-
-fn note_headers(least: Option<Place>, units: &[Unit]) -> Option<Place>
-    ensures { result ≡ noted (map (λ u. u.at) units.now) least }
-{
-    let mut least = least;
-    for unit in units {
-        least = note(least, unit.at);
     }
     least
 }
@@ -121,27 +102,7 @@ fn note_marks(least: Option<Place>, unit: &Unit) -> Option<Place>
     }
 }
 
-fn note_unit(least: Option<Place>, unit: &Unit) -> Option<Place>
-    ensures { result ≡ noted (of_unit unit.now) least }
-{
-    let least = note_unless(least, is_header(unit), unit.at);
-    let least = note_uses(least, unit.uses.items());
-    let least = note_decls(least, unit);
-    let least = note_marks(least, unit);
-    note_body(least, unit)
-}
-
-fn note_units(least: Option<Place>, units: &[Unit]) -> Option<Place>
-    ensures { result ≡ noted (of_units units.now) least }
-{
-    let Some((unit, others)) = units.split_first() else {
-        return least;
-    };
-    note_headers(note_unit(least, unit), others)
-}
-
-/// The first place that keeps the program from being one unit of column scalars, or `None` exactly where nothing does. It is that of
-/// - a module's name, or the name in the header of a unit behind the first one;
+/// The first place so far, after those that keep a unit from being one of column scalars. They are
 /// - the name in the header, where the unit is a FUNCTION or stands in a module, has no dummies or no directives, or has a dummy that doesn't stand once in the header and isn't declared once;
 /// - the module's name in a USE line;
 /// - a declared name that is no dummy, or no default INTEGER scalar with an INTENT;
@@ -150,9 +111,12 @@ fn note_units(least: Option<Place>, units: &[Unit]) -> Option<Place>
 /// - the first token of a statement that isn't the assignment of a sum of products of dummies and numbers to a dummy that isn't INTENT(IN).
 ///
 /// Numbers have no suffix and are of kind 4. It takes no memory. The rules are this project's own.
-pub fn first_unbuilt(file: &File) -> Option<Place>
-    ensures { MatchOption result (unbuilt file.now ≡ []) (λ at. IsFirst at (unbuilt file.now)) }
+pub fn note_unit(least: Option<Place>, unit: &Unit) -> Option<Place>
+    ensures { result ≡ noted (of_unit unit.now) least }
 {
-    let least = note_modules(None, file.modules.items());
-    note_units(least, file.units.items())
+    let least = note_unless(least, is_header(unit), unit.at);
+    let least = note_uses(least, unit.uses.items());
+    let least = note_decls(least, unit);
+    let least = note_marks(least, unit);
+    note_body(least, unit)
 }

@@ -1,0 +1,2 @@
+mod AllKinds
+mod SoundPrograms

@@ -1,0 +1,3 @@
+mod NamesAre
+mod ColumnUnits
+mod Steps
