@@ -12,6 +12,7 @@ pub mod Agreeing
 pub mod Columnwise
 pub mod MemberCases
 pub mod Naming
+pub mod ModuleVariables
 pub mod WideFrames
 pub mod Slices
 pub mod UnitRuns
