@@ -8,6 +8,7 @@ pub mod Lookups
 pub mod Source
 pub mod Turns
 pub mod Wide
+pub mod Unmarked
 pub mod Agreeing
 pub mod Columnwise
 pub mod MemberCases

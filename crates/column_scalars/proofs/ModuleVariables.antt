@@ -1,19 +1,19 @@
 -- The variables of modules behind a unit's own in a frame: no run of the unit touches them.
-use Rattle.std.proofs.Common.{◌≡◌, ℤ, refl, ap, sym, subst, ◌∙◌, List, [], ◌∷◌, ◌++◌, Contains, Option, Some, None, Bool, true, false, ◌&&◌, ◌||◌, not, map, flat_map, cond, is_none}
+use Rattle.std.proofs.Common.{◌≡◌, ℤ, refl, ap, sym, ◌∙◌, List, [], ◌∷◌, ◌++◌, Contains, Some, None, Bool, true, false, ◌&&◌, ◌||◌, not, map, flat_map, cond, is_none}
 use Rattle.std.specs.Prelude.{⊤, if◌then◌else◌}
 use Rattle.std.specs.List.{filter}
 use Rattle.std.proofs.lemmas.Bool.{false≢true}
 use mathlib.Core.Path.{ap₂}
 use Rattle.courses.specs.Element.{Value, Undefined, Element, Store, same_name}
-use Rattle.courses.specs.Frames.{Entry, places, look, inside, filled, has_name, is_named, IsFrame}
+use Rattle.courses.specs.Frames.{Entry, look, inside, filled, has_name, IsFrame}
 use Rattle.courses.proofs.Framed.{filled_same, filled_look}
 use Rattle.claw_meaning.specs.Syntax.{Text, Decl, Unit, Module, Program}
-use Rattle.claw_meaning.specs.Frames.{Key, Held, Frame, home_of, entries, with_store, FitsModuleVariable, FitModules, module_variables}
+use Rattle.claw_meaning.specs.Frames.{Key, Held, Frame, home_of, entries, with_store, FitModules, module_variables}
 use Rattle.std.specs.Str.{bytes_eq}
 use Rattle.claw_meaning.specs.Columns.{column_place, place_of_key, column_of_held, is_added, joined_held}
 use Rattle.column_scalars.specs.Scalars.{Distinct}
 use Rattle.column_scalars.specs.Standing.{DeclareOnce}
-use Rattle.column_scalars.proofs.MemberCases.{contains_first, contains_later, names_apart, names_equal}
+use Rattle.column_scalars.proofs.MemberCases.{contains_first, contains_later, names_apart}
 
 -- Variables that are declared once
 

@@ -4,8 +4,8 @@ use Rattle.std.proofs.lemmas.Int.{ints}
 use Rattle.std.specs.Option.{option_and_then}
 use Rattle.fort_arith.specs.declared.kind.Kind.TheVariants.{I4}
 use Rattle.fort_arith.specs.declared.op.Op.TheVariants.{Lt}
-use Rattle.fort_arith.specs.Range.{fitted, in_kind, is_whole, least, greatest}
-use Rattle.fort_arith.specs.Operators.{is_arithmetic, is_relation, compared}
+use Rattle.fort_arith.specs.Range.{fitted, in_kind, least, greatest}
+use Rattle.fort_arith.specs.Operators.{compared}
 use Rattle.fort_tree.specs.declared.unit.Intent.TheVariants.{In}
 use Rattle.fort_tree.specs.Intrinsic.{intrinsic_named}
 use Rattle.courses.specs.Element.{Value, Whole, Element, Store}
@@ -29,16 +29,16 @@ use Rattle.column_scalars.proofs.Turns.{all_turns}
 
 -- Names
 
-abbrev wide_scene : Program → Scalars → (Text → Callee) → Given → Scene
+abbrev pub wide_scene : Program → Scalars → (Text → Callee) → Given → Scene
 wide_scene p u callee given = scene_of p callee (wide_unit u) given
 
 upper_decl : (u : Scalars) → decl_named (wide_unit u).decls u.upper ≡ Some (dummy_decl u.upper In)
 upper_decl u = named_first (dummy_decl u.upper In) (wide_decls u.lower u.upper u.declared ++ local_decl u.id ∷ []) u.upper refl
 
-upper_means : (p : Program) (u : Scalars) (callee : Text → Callee) (given : Given) → (wide_scene p u callee given).meant u.upper ≡ integer_of u.name u.upper []
+pub upper_means : (p : Program) (u : Scalars) (callee : Text → Callee) (given : Given) → (wide_scene p u callee given).meant u.upper ≡ integer_of u.name u.upper []
 upper_means p u callee given = means p callee (wide_unit u) given u.upper (dummy_decl u.upper In) refl (upper_decl u)
 
-id_means : (p : Program) (u : Scalars) → IsScalars u → (callee : Text → Callee) (given : Given) → (wide_scene p u callee given).meant u.id ≡ integer_of u.name u.id []
+pub id_means : (p : Program) (u : Scalars) → IsScalars u → (callee : Text → Callee) (given : Given) → (wide_scene p u callee given).meant u.id ≡ integer_of u.name u.id []
 id_means p u i callee given =
     means p callee (wide_unit u) given u.id (local_decl u.id) refl
     (named_later (dummy_decl u.upper In) (wide_decls u.lower u.upper u.declared ++ local_decl u.id ∷ []) u.id (λ e. i.apart (sym e))

@@ -4,7 +4,7 @@ use Rattle.std.proofs.lemmas.Bool.{false≢true}
 use mathlib.Core.Path.{ap₂}
 use Rattle.fort_arith.specs.declared.kind.Kind.{Kind}
 use Rattle.fort_arith.specs.declared.kind.Kind.TheVariants.{I4}
-use Rattle.fort_arith.specs.Range.{in_kind, is_whole}
+use Rattle.fort_arith.specs.Range.{in_kind}
 use Rattle.fort_tree.specs.declared.unit.Intent.TheVariants.{In}
 use Rattle.courses.specs.Element.{Value, Undefined, Whole, Truth}
 use Rattle.courses.specs.Frames.{places}

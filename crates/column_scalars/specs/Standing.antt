@@ -2,6 +2,8 @@
 use Rattle.std.specs.Prelude.{◌≡◌, List, [], ◌∷◌, map, ⊤}
 use Rattle.claw_meaning.specs.Syntax.{Module, Program}
 use Rattle.claw_meaning.specs.Scope.{Unknown, visible}
+use Rattle.claw_meaning.specs.Units.{is_listed}
+use Rattle.claw_meaning.specs.Interface.{Widening, widening_of}
 use Rattle.column_scalars.specs.Scalars.{Scalars, Distinct, source_unit}
 
 -- each module declares a name once
@@ -15,3 +17,7 @@ pub record StandsIn (p : Program) (u : Scalars) : Type 0 where
   pub upper : visible p (source_unit u) u.upper ≡ Unknown
   pub names : Distinct (u.name ∷ map (λ m. m.name) p.modules)
   pub declared : DeclareOnce p.modules
+
+-- the unit is widened so: its wide variables are its dummies
+abbrev pub widening_there : Program → Scalars → Widening
+widening_there p u = widening_of p (source_unit u) (λ x. is_listed u.dummies x)
