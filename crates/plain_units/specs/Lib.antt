@@ -1,0 +1,4 @@
+pub mod Regrouped
+pub mod Undirected
+pub mod Calling
+pub mod Translated

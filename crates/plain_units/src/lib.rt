@@ -1,0 +1,6 @@
+//! Units without columns: they are written as they are, but for the order of their declarations, and do what they did.
+#![tactic(auto)]
+
+mod laws;
+
+pub use laws::plain_units_kept;
