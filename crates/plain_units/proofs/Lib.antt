@@ -1,3 +1,5 @@
 pub mod Alike
 pub mod Parts
 pub mod Trees
+pub mod Declared
+pub mod Seeing

@@ -1,4 +1,5 @@
 use Rattle.plain_units.proofs.Trees.{meanings_alike}
+use Rattle.plain_units.proofs.Seeing.{visible_same}
 use Rattle.plain_units.proofs.laws.plain_units_kept.Goals as goal
 
 -- src/laws.rt
