@@ -3,3 +3,5 @@ pub mod Parts
 pub mod Trees
 pub mod Declared
 pub mod Seeing
+pub mod Entering
+pub mod Running

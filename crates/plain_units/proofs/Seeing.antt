@@ -49,7 +49,7 @@ row_at p _ _ no_row i u t a b = absurd (none_some u a)
 row_at p _ _ (row {u = v} {t = w} r rest) zero u t a b = subst (λ x. Row p x t) (some_is v u a) (subst (λ x. Row p v x) (some_is w t b) r)
 row_at p _ _ (row {us = us} {ts = ts} r rest) (suc i) u t a b = row_at p us ts rest i u t a b
 
-row_name : (p : Program) (u t : Unit) → Row p u t → t.name ≡ u.name
+pub row_name : (p : Program) (u t : Unit) → Row p u t → t.name ≡ u.name
 row_name p _ _ (kept e h) = refl
 row_name p _ _ (other e a b c) = a
 
@@ -57,7 +57,7 @@ row_host : (p : Program) (u t : Unit) → Row p u t → t.host ≡ u.host
 row_host p _ _ (kept e h) = refl
 row_host p _ _ (other e a b c) = b
 
-row_kind : (p : Program) (u t : Unit) → Row p u t → kind_of_entity (Procedure t) ≡ kind_of_entity (Procedure u)
+pub row_kind : (p : Program) (u t : Unit) → Row p u t → kind_of_entity (Procedure t) ≡ kind_of_entity (Procedure u)
 row_kind p _ _ (kept {u} e h) = ap kind_of_decl (same_decl u (result_name u.name u.result) e h.once)
 row_kind p _ _ (other e a b c) = c
 
