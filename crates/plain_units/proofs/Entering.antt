@@ -24,7 +24,7 @@ use Rattle.plain_units.specs.Translated.{IsPlain}
 use Rattle.plain_units.proofs.Alike.{Alike, gives, fails, tells_left, tells_right, alike_then}
 use Rattle.plain_units.proofs.Parts.{AlikeCallees, callees, if_alike, with_values_alike, stored_alike}
 use Rattle.plain_units.proofs.Trees.{meanings_alike}
-use Rattle.plain_units.proofs.Seeing.{Row, kept, other, Rows, Found, neither, two, SameEntity, unknown, variable, constant, procedure, row_name, row_kind, same_decl, target, found_named, module_same, visible_same}
+use Rattle.plain_units.proofs.Seeing.{Row, plain_row, column_row, Rows, Found, neither, two, SameEntity, unknown, variable, constant, procedure, row_name, row_kind, same_decl, target, found_named, module_same, visible_same}
 
 -- Dummies
 
@@ -160,8 +160,8 @@ module _ (p : Program) (ts : List Unit) (rows : Rows p p.units ts) where
 
   found_alike : (f f' : Text → Callee) → ((x : Text) → is_column_called (unit_named p x) ≡ false → AlikeCallees (f x) (f' x)) → (a b : Option Unit) → Found p a b → is_column_called a ≡ false → AlikeCallees (callee_or_none p f a) (callee_or_none q f' b)
   found_alike f f' alike _ _ neither k = none_alike
-  found_alike f f' alike _ _ (two (kept {u} e h)) k = callee_alike u e h f f' alike
-  found_alike f f' alike _ _ (two (other e a b c)) k = absurd (false≢true (sym k ∙ e))
+  found_alike f f' alike _ _ (two (plain_row {u} e h)) k = callee_alike u e h f f' alike
+  found_alike f f' alike _ _ (two (column_row e a b c)) k = absurd (false≢true (sym k ∙ e))
 
   pub callees_alike : (depth : ℕ) (x : Text) → is_column_called (unit_named p x) ≡ false → AlikeCallees (callees_to p depth x) (callees_to q depth x)
   callees_alike zero x k = none_alike

@@ -5,3 +5,4 @@ pub mod Declared
 pub mod Seeing
 pub mod Entering
 pub mod Running
+pub mod Interfaces

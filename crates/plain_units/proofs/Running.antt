@@ -19,7 +19,7 @@ use Rattle.claw_meaning.specs.Kept.{KeepsUnit}
 use Rattle.plain_units.specs.Regrouped.{regrouped}
 use Rattle.plain_units.specs.Translated.{Translates, IsPlain, ArePlain}
 use Rattle.plain_units.proofs.Alike.{Alike, EndsAlike, ends_alike, runs_none}
-use Rattle.plain_units.proofs.Seeing.{same_decl, Row, kept, other, Rows, rows_of, rows_length, row_at, target}
+use Rattle.plain_units.proofs.Seeing.{same_decl, Row, plain_row, column_row, Rows, rows_of, rows_length, row_at, target}
 use Rattle.plain_units.proofs.Entering.{body_alike, callees_alike}
 
 module _ (p : Program) (ts : List Unit) (rows : Rows p p.units ts) (u : Unit) (e : is_column_unit u ≡ false) (h : IsPlain p u) (frame : Frame) where
@@ -66,8 +66,8 @@ abbrev pub Does : Program → Program → Unit → Unit → Plan → Frame → T
 Does s t u v plan frame = KeepsUnit s t u v plan frame × Apart (exec t v frame plan)
 
 row_does : (s : Program) (ts : List Unit) (rows : Rows s s.units ts) (u v : Unit) → Row s u v → is_column_unit u ≡ false → (plan : Plan) (frame : Frame) → Does s (target s ts rows) u v plan frame
-row_does s ts rows _ _ (kept {u} e h) k plan frame = (keeps s ts rows u e h frame plan, apart s ts rows u e h frame plan)
-row_does s ts rows _ _ (other e a b c) k plan frame = absurd (false≢true (sym k ∙ e))
+row_does s ts rows _ _ (plain_row {u} e h) k plan frame = (keeps s ts rows u e h frame plan, apart s ts rows u e h frame plan)
+row_does s ts rows _ _ (column_row e a b c) k plan frame = absurd (false≢true (sym k ∙ e))
 
 pub plain_does : (s t : Program) → Translates s t → ArePlain s → (i : ℕ) (u v : Unit) → slice_get s.units i ≡ Some u → slice_get t.units i ≡ Some v → is_column_unit u ≡ false → (plan : Plan) (frame : Frame) → Does s t u v plan frame
 plain_does s t h are i u v a b k plan frame =

@@ -19,16 +19,16 @@ same_decl u x e h = ap (λ ds. decl_named ds x) (written_is u e) ∙ grouped_dec
 
 -- a unit and what is made of it, where a plain unit has what makes it so
 pub data Row (p : Program) : Unit → Unit → Type 0 where
-  kept : {u : Unit} → is_column_unit u ≡ false → IsPlain p u → Row p u (regrouped u)
-  other : {u t : Unit} → is_column_unit u ≡ true → t.name ≡ u.name → t.host ≡ u.host → kind_of_entity (Procedure t) ≡ kind_of_entity (Procedure u) → Row p u t
+  plain_row : {u : Unit} → is_column_unit u ≡ false → IsPlain p u → Row p u (regrouped u)
+  column_row : {u t : Unit} → is_column_unit u ≡ true → t.name ≡ u.name → t.host ≡ u.host → kind_of_entity (Procedure t) ≡ kind_of_entity (Procedure u) → Row p u t
 
 pub data Rows (p : Program) : List Unit → List Unit → Type 0 where
   no_row : Rows p [] []
   row : {u t : Unit} {us ts : List Unit} → Row p u t → Rows p us ts → Rows p (u ∷ us) (t ∷ ts)
 
 row_of : (p : Program) (u t : Unit) → TranslatesUnit u t → (is_column_unit u ≡ false → IsPlain p u) → Row p u t
-row_of p _ _ (plain e) h = kept e (h e)
-row_of p _ _ (column e a b c) h = other e a b c
+row_of p _ _ (plain e) h = plain_row e (h e)
+row_of p _ _ (column e a b c) h = column_row e a b c
 
 pub rows_of : (p : Program) (us ts : List Unit) → TranslatesUnits us ts → ((i : ℕ) (u : Unit) → slice_get us i ≡ Some u → is_column_unit u ≡ false → IsPlain p u) → Rows p us ts
 rows_of p _ _ none h = no_row
@@ -50,16 +50,16 @@ row_at p _ _ (row {u = v} {t = w} r rest) zero u t a b = subst (λ x. Row p x t)
 row_at p _ _ (row {us = us} {ts = ts} r rest) (suc i) u t a b = row_at p us ts rest i u t a b
 
 pub row_name : (p : Program) (u t : Unit) → Row p u t → t.name ≡ u.name
-row_name p _ _ (kept e h) = refl
-row_name p _ _ (other e a b c) = a
+row_name p _ _ (plain_row e h) = refl
+row_name p _ _ (column_row e a b c) = a
 
 row_host : (p : Program) (u t : Unit) → Row p u t → t.host ≡ u.host
-row_host p _ _ (kept e h) = refl
-row_host p _ _ (other e a b c) = b
+row_host p _ _ (plain_row e h) = refl
+row_host p _ _ (column_row e a b c) = b
 
 pub row_kind : (p : Program) (u t : Unit) → Row p u t → kind_of_entity (Procedure t) ≡ kind_of_entity (Procedure u)
-row_kind p _ _ (kept {u} e h) = ap kind_of_decl (same_decl u (result_name u.name u.result) e h.once)
-row_kind p _ _ (other e a b c) = c
+row_kind p _ _ (plain_row {u} e h) = ap kind_of_decl (same_decl u (result_name u.name u.result) e h.once)
+row_kind p _ _ (column_row e a b c) = c
 
 -- the units that a search finds
 pub data Found (p : Program) : Option Unit → Option Unit → Type 0 where

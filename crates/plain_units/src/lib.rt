@@ -3,4 +3,4 @@
 
 mod laws;
 
-pub use laws::plain_units_kept;
+pub use laws::{plain_units_kept, plain_units_written};
