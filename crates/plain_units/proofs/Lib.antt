@@ -6,3 +6,4 @@ pub mod Seeing
 pub mod Entering
 pub mod Running
 pub mod Interfaces
+pub mod Grouping

@@ -2,3 +2,4 @@ pub mod Regrouped
 pub mod Undirected
 pub mod Calling
 pub mod Translated
+pub mod Groups

@@ -2,5 +2,7 @@
 #![tactic(auto)]
 
 mod laws;
+mod regrouping;
 
 pub use laws::{plain_units_kept, plain_units_written};
+pub use regrouping::regrouped;
