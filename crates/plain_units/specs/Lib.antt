@@ -3,3 +3,4 @@ pub mod Undirected
 pub mod Calling
 pub mod Translated
 pub mod Groups
+pub mod PlainArms

@@ -3,6 +3,8 @@
 
 mod laws;
 mod regrouping;
+mod undirected;
 
 pub use laws::{plain_units_kept, plain_units_written};
 pub use regrouping::regrouped;
+pub use undirected::is_undirected;
