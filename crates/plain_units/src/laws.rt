@@ -1,0 +1,29 @@
+//! What a unit without columns keeps.
+
+ghost use Rattle.std.specs.Prelude.{◌≡◌, ℕ, Bool, true, Some, false, slice_get};
+ghost use Rattle.courses.specs.Plans.{Plan};
+ghost use Rattle.claw_meaning.specs.Syntax.{Text, Unit, Program};
+ghost use Rattle.claw_meaning.specs.Units.{is_column_unit};
+ghost use Rattle.claw_meaning.specs.Frames.{Frame};
+ghost use Rattle.claw_meaning.specs.Runs.{exec, Apart};
+ghost use Rattle.claw_meaning.specs.Kept.{KeepsUnit};
+ghost use Rattle.claw_meaning.specs.Interface.{widening_of, UnitInterface};
+ghost use Rattle.claw_meaning.specs.Erasure.{bare_unit, erased_unit};
+ghost use Rattle.claw_meaning.specs.Spread.{are_unmarked, has_routine};
+ghost use Rattle.plain_units.specs.Translated.{Translates, ArePlain};
+
+/// In a translated program, under every plan and from every frame, a plain unit traps where it did, else leaves what it left,
+/// and runs no marked loop.
+pub fn plain_units_kept()
+    ensures kept { (s t : Program) → Translates s t → ArePlain s → (i : ℕ) (u v : Unit) → slice_get s.units i ≡ Some u → slice_get t.units i ≡ Some v → is_column_unit u ≡ false → (plan : Plan) (frame : Frame) → KeepsUnit s t u v plan frame }
+    ensures apart { (s t : Program) → Translates s t → ArePlain s → (i : ℕ) (u v : Unit) → slice_get s.units i ≡ Some u → slice_get t.units i ≡ Some v → is_column_unit u ≡ false → (plan : Plan) (frame : Frame) → Apart (exec t v frame plan) }
+{}
+
+/// In a translated program a plain unit is declared in its groups and refers as the source's interface wants, it is the bare
+/// source when erased, no loop in it is marked, and it isn't a `routine`.
+pub fn plain_units_written()
+    ensures interface { (s t : Program) → Translates s t → ArePlain s → (i : ℕ) (u v : Unit) → slice_get s.units i ≡ Some u → slice_get t.units i ≡ Some v → is_column_unit u ≡ false → (wide : Text → Bool) → UnitInterface s u v (widening_of s u wide) }
+    ensures erased { (s t : Program) → Translates s t → ArePlain s → (i : ℕ) (u v : Unit) → slice_get s.units i ≡ Some u → slice_get t.units i ≡ Some v → is_column_unit u ≡ false → (wide : Text → Bool) → erased_unit s u (widening_of s u wide) v ≡ bare_unit s u }
+    ensures unmarked { (s t : Program) → Translates s t → ArePlain s → (i : ℕ) (u v : Unit) → slice_get s.units i ≡ Some u → slice_get t.units i ≡ Some v → is_column_unit u ≡ false → are_unmarked v.body ≡ true }
+    ensures routine { (s t : Program) → Translates s t → ArePlain s → (i : ℕ) (u v : Unit) → slice_get s.units i ≡ Some u → slice_get t.units i ≡ Some v → is_column_unit u ≡ false → has_routine v ≡ false }
+{}

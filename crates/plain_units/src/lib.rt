@@ -1,0 +1,10 @@
+//! Units without columns: they are written as they are, but for the order of their declarations, and do what they did.
+#![tactic(auto)]
+
+mod laws;
+mod regrouping;
+mod undirected;
+
+pub use laws::{plain_units_kept, plain_units_written};
+pub use regrouping::regrouped;
+pub use undirected::is_undirected;
