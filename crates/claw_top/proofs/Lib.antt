@@ -2,7 +2,6 @@ mod Collecting
 mod Loads
 mod Ends
 mod Refusing
-mod OneUnit
+mod Modes
 mod Translating
-mod Counts
 mod Judging

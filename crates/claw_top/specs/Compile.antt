@@ -1,22 +1,19 @@
 -- What is made of the sources: a text that is a translation of them, or how many units they have; or their first fault.
-use Rattle.std.specs.Prelude.{◌≡◌, ◌⊎◌, ℕ, Bool, ◌++◌, List, Ok, Err, None, length, count_by, decimal, codes}
-use Rattle.std.specs.List.{list_any}
+use Rattle.std.specs.Prelude.{◌≡◌, ◌⊎◌, ℕ, ◌++◌, List, Ok, Err, None, length, count_by, decimal, codes}
 use Rattle.std.specs.declared.result.Result.{Result}
+use Rattle.fort_tree.specs.declared.choice.Mode.TheVariants.{Source}
 use Rattle.fort_tree.specs.declared.fault.Code.TheVariants.{E20}
 use Rattle.fort_tree.specs.declared.fault.Fault.{Fault}
 use Rattle.fort_tree.specs.declared.place.Place.{Place}
 use Rattle.fort_tree.specs.declared.statement.Line.{Line}
-use Rattle.fort_tree.specs.declared.stmt.Directive.{Directive}
-use Rattle.fort_tree.specs.declared.stmt.DirectiveWord.{DirectiveWord}
 use Rattle.fort_tree.specs.declared.unit.File.{File}
-use Rattle.fort_tree.specs.declared.unit.Unit.{Unit as TreeUnit}
-use Rattle.claw_meaning.specs.Plain.{plain_unit}
-use Rattle.claw_meaning.specs.Units.{is_column_unit}
 use Rattle.fort_units.specs.Program.{IsProgram, HasFirst}
-use Rattle.scalar_units.specs.Unbuilt.{IsFirst, unbuilt}
+use Rattle.scalar_units.specs.Unbuilt.{IsFirst}
+use Rattle.sound_programs.specs.Sound.{Sound}
+use Rattle.translated_programs.specs.NotBuilt.{is_column, unbuilt}
 use Rattle.claw_words.specs.declared.reading.Command.{Command}
 use Rattle.claw_words.specs.declared.reading.Command.TheVariants.{Translate, Check}
-use Rattle.claw_top.specs.Connected.{IsConnected, HasProgramFault}
+use Rattle.claw_top.specs.Judged.{HasProgramFault}
 use Rattle.claw_top.specs.Sources.{HaveLines, HaveTextFault, begins_at}
 use Rattle.claw_top.specs.Translation.{Translation}
 
@@ -30,40 +27,36 @@ pub record HaveSyntaxFault (sources : List (List ℕ)) (fault : Fault) : Type 0 
   pub are : HaveLines sources lines
   pub first : HasFirst lines fault
 
--- the sources spell a program, and this is the first fault of its names and calls
+-- the sources spell a program, and this is the first fault of its names, calls and kinds
 pub record HaveProgramFault (sources : List (List ℕ)) (fault : Fault) : Type 0 where
   pub lines : List Line
   pub are : HaveLines sources lines
   pub has : HasProgramFault lines fault
 
--- The sources spell a program which is not one unit of column scalars. The fault stands at the first token of the line
--- that has the first place which keeps it from being one.
+-- The sources spell a sound program which is not yet translated. The fault stands at the first token of the line that has
+-- the first place which keeps it from being translated.
 pub record IsNotBuilt (sources : List (List ℕ)) (fault : Fault) : Type 0 where
   pub lines : List Line
   pub are : HaveLines sources lines
   pub file : File
   pub spelled : IsProgram lines file
-  pub connected : IsConnected file
+  pub sound : Sound Source file
   pub place : Place
   pub first : IsFirst place (unbuilt file)
   pub is : fault ≡ not_built (begins_at place lines)
-
--- the unit is written for one column
-unfoldable pub is_column : TreeUnit → Bool
-is_column u = is_column_unit (plain_unit u)
 
 -- `units U column units C`: the numbers of all units and of the column units
 abbrev pub counts_text : File → List ℕ
 counts_text file =
     codes "units " ++ (decimal (length file.units) ++ (codes " column units " ++ (decimal (count_by is_column file.units) ++ codes "\n")))
 
--- the sources spell a program, and the text says how many units it has
+-- the sources spell a sound program, and the text says how many units it has
 pub record AreCounted (sources : List (List ℕ)) (text : List ℕ) : Type 0 where
   pub lines : List Line
   pub are : HaveLines sources lines
   pub file : File
   pub spelled : IsProgram lines file
-  pub connected : IsConnected file
+  pub sound : Sound Source file
   pub says : text ≡ counts_text file
 
 -- a translation of the sources, or their first fault
@@ -80,7 +73,3 @@ IsCount sources (Err fault) = HaveTextFault sources fault ⊎ HaveSyntaxFault so
 abbrev pub Compiles : Command → List (List ℕ) → Result (List ℕ) Fault → Type 0
 Compiles (Translate target directives) sources outcome = IsTranslation sources outcome
 Compiles Check sources outcome = IsCount sources outcome
-
--- one of the directives has such a word
-abbrev pub has_directive : (DirectiveWord → Bool) → List Directive → Bool
-has_directive is marks = list_any (λ d. is d.word) marks

@@ -1,4 +1,4 @@
-pub mod Connected
+pub mod Judged
 pub mod Limits
 pub mod Sources
 pub mod Translation

@@ -11,7 +11,7 @@ use Rattle.fort_lex.specs.Lines as lex
 use Rattle.fort_units.specs.Places.{LineInFiles}
 use Rattle.fort_units.specs.Program.{HasFirst}
 use Rattle.scalar_units.specs.Unbuilt.{is_earlier}
-use Rattle.claw_top.specs.Connected.{HasProgramFault}
+use Rattle.claw_top.specs.Judged.{HasProgramFault}
 
 -- no text fault is in the source of this number, and these are its lines
 abbrev pub HasLines : ℕ → List ℕ → List Line → Type 0
@@ -49,7 +49,7 @@ HaveTextStop sources NoMemory = ⊤
 abbrev pub AreBefore : ℕ → List Line → Type 0
 AreBefore count lines = All (LineInFiles count) lines
 
--- why the program of lines is not given: their first fault of syntax, or else that of its names and calls, which is in one of the files; or refused memory
+-- why the program of lines is not given: their first fault of syntax, or else that of its names, calls and kinds, which is in one of the files; or refused memory
 abbrev pub HaveProgramStop : ℕ → List Line → Stop → Type 0
 HaveProgramStop count lines (Fails fault) = (HasFirst lines fault ⊎ HasProgramFault lines fault) × (fault.place.file < count)
 HaveProgramStop count lines NoMemory = ⊤

@@ -1,25 +1,27 @@
 // The compiler: the program that is made of the sources, or their first fault.
 ghost use Rattle.std.specs.Prelude.{◌≡◌, ◌≤◌, IfOk, IfErr, length};
+ghost use Rattle.fort_tree.specs.declared.choice.Mode.TheVariants.{Source};
 ghost use Rattle.fort_units.specs.Program.{IsProgram};
+ghost use Rattle.sound_programs.specs.Sound.{IsNested, Sound};
 ghost use Rattle.claw_top.specs.Compile.{Compiles, IsTranslation};
-ghost use Rattle.claw_top.specs.Connected.{IsConnected, HasJudgedStop};
+ghost use Rattle.claw_top.specs.Judged.{HasJudgedStop};
 ghost use Rattle.claw_top.specs.Limits.{most_files, most_bytes, most_lines, total_length};
 ghost use Rattle.claw_top.specs.Outcome.{bytes_of, outcome_of, IsInFiles};
 ghost use Rattle.claw_top.specs.Sources.{HaveLines, HaveTextStop, HaveProgramStop, AreBefore};
-ghost use Rattle.claw_top.specs.Translation.{no_unit, one_unit};
 
 use crate::counting::counts;
 use crate::placing::begins_at;
 use call_graph::graph_of;
+use checked_programs::{Checked, check};
 use claw_words::Command;
-use column_scalars::widen;
 use fort_lex::lines;
-use fort_tree::{Fault, File, Item, Line, Mode, NoMemory, Seq, Stop, Unit};
+use fort_tree::{Fault, File, Line, Mode, NoMemory, Seq, Stop};
 use fort_units::file;
-use layout_reading::{layouts_are_read, layouts_spell_one_file, wide_units_are_printable};
+use layout_reading::{layouts_are_read, layouts_spell_one_file};
 use name_faults::names;
-use scalar_units::first_unbuilt;
 use std::alloc::Global;
+use translated_programs::{first_unbuilt, sound_programs_translate, translated};
+use written_programs::translated_programs_can_be_written;
 
 /// What is made of the sources.
 #[derive(Debug, Drop)]
@@ -83,38 +85,46 @@ fn compile_lines(
 {
     match program_of(alloc, sources, lines) {
         Ok(program) => match command {
-            Command::Translate(..) => translate(alloc, sources, lines, &program),
-            Command::Check => Ok(Compiled::Counts(counts(alloc, &program)?)),
+            Command::Translate(..) => translate(alloc, sources, lines, program.file()),
+            Command::Check => Ok(Compiled::Counts(counts(alloc, program.file())?)),
         },
         Err(Stop::Fault(fault)) => Ok(Compiled::Fault(fault)),
         Err(Stop::NoMemory) => Err(NoMemory),
     }
 }
 
-// The program of the lines of the sources, without faults of names and calls.
-fn program_of(alloc: Global, sources: &[Vec<u8>], lines: &Seq<Line>) -> Result<File, Stop>
+// The program of the lines of the sources, which is sound.
+fn program_of(alloc: Global, sources: &[Vec<u8>], lines: &Seq<Line>) -> Result<Checked, Stop>
+    requires lines { HaveLines (bytes_of sources.now) lines.now }
     requires in_files { AreBefore (length sources.now) lines.now }
     requires few { length lines.now ≤ most_lines }
-    ensures spelled { IfOk result (IsProgram lines.now) }
-    ensures connected { IfOk result IsConnected }
+    ensures spelled { IfOk result (λ program. IsProgram lines.now program.file) }
+    ensures sound { IfOk result (λ program. Sound Source program.file) }
     ensures stop { IfErr result (HaveProgramStop (length sources.now) lines.now) }
 {
     let program = file(alloc, lines)?;
-    judge(alloc, &program)?;
-    Ok(program)
+    judge(alloc, program)
 }
 
-// Judges the names of a program, and then its calls.
-fn judge(alloc: Global, program: &File) -> Result<(), Stop>
-    ensures connected { IfOk result (λ done. IsConnected program.now) }
-    ensures stop { IfErr result (HasJudgedStop program.now) }
+// Judges the names of a program, then its calls, and then its kinds, ranks and arguments.
+fn judge(alloc: Global, program: File) -> Result<Checked, Stop>
+    requires nested { IsNested Source program }
+    ensures program { IfOk result (λ checked. checked.file ≡ program) }
+    ensures sound { IfOk result (λ checked. Sound Source program) }
+    ensures stop { IfErr result (HasJudgedStop program) }
 {
-    let symbols = names(alloc, program)?;
-    graph_of(alloc, program, &symbols)?;
-    Ok(())
+    let symbols = names(alloc, &program)?;
+    let graph = graph_of(alloc, &program, &symbols)?;
+    match check(alloc, program, symbols, graph, Mode::Source) {
+        Ok(checked) => {
+            checked.is_sound();
+            Ok(checked)
+        }
+        Err(refused) => Err(refused.stop),
+    }
 }
 
-// Translates a program, which has to be one unit of column scalars, or none. The unit is made for all columns.
+// Translates a sound program, or tells where it isn't translated yet.
 fn translate(
     alloc: Global,
     sources: &[Vec<u8>],
@@ -124,46 +134,17 @@ fn translate(
     requires lines { HaveLines (bytes_of sources.now) lines.now }
     requires in_files { AreBefore (length sources.now) lines.now }
     requires spelled { IsProgram lines.now program.now }
-    requires connected { IsConnected program.now }
+    requires sound { Sound Source program.now }
     ensures compiles { IfOk result (λ compiled. IsTranslation (bytes_of sources.now) (outcome_of compiled)) }
     ensures in_files { IfOk result (λ compiled. IsInFiles (length sources.now) (outcome_of compiled)) }
 {
-    if let Some(place) = first_unbuilt(program) {
+    if let Some(place) = first_unbuilt(alloc, program)? {
         let begin = begins_at(place, lines.items());
         return Ok(Compiled::Fault(Fault::outside_profile(begin, 13)));
     }
+    sound_programs_translate();
+    translated_programs_can_be_written();
     layouts_are_read();
     layouts_spell_one_file();
-    wide_units_are_printable();
-    let Some((unit, _)) = program.units.items().split_first() else {
-        return Ok(Compiled::Program(empty(alloc)));
-    };
-    let wide = widen(alloc, unit)?;
-    Ok(Compiled::Program(alone(alloc, wide)?))
-}
-
-// The program of no unit.
-fn empty(alloc: Global) -> File
-    ensures { result ≡ no_unit }
-{
-    File {
-        modules: Seq::new(alloc),
-        units: Seq::new(alloc),
-        order: Seq::new(alloc),
-    }
-}
-
-// The program of one external unit.
-fn alone(alloc: Global, unit: Unit) -> Result<File, NoMemory>
-    ensures { IfOk result (λ file. file ≡ one_unit unit) }
-{
-    let mut units = Seq::new(alloc);
-    units.push(unit)?;
-    let mut order = Seq::new(alloc);
-    order.push(Item::Unit(0))?;
-    Ok(File {
-        modules: Seq::new(alloc),
-        units,
-        order,
-    })
+    Ok(Compiled::Program(translated(alloc, program)?))
 }

@@ -1,48 +1,12 @@
 // The line that counts a program's units.
-ghost use Rattle.std.specs.Prelude.{◌≡◌, ◌&&◌, count_by, IfOk};
-ghost use Rattle.claw_meaning.specs.Units.{is_word_define, is_word_parallelize};
-ghost use Rattle.claw_top.specs.Compile.{counts_text, has_directive, is_column};
+ghost use Rattle.std.specs.Prelude.{◌≡◌, count_by, IfOk};
+ghost use Rattle.claw_top.specs.Compile.{counts_text};
+ghost use Rattle.translated_programs.specs.NotBuilt.{is_column};
 
-use fort_tree::{Directive, DirectiveWord, File, NoMemory, Unit};
+use fort_tree::{File, NoMemory, Unit};
 use itoa::Buffer;
 use std::alloc::Global;
-
-fn is_define(word: DirectiveWord) -> bool
-    ensures { result ≡ is_word_define word }
-{
-    matches!(word, DirectiveWord::Define)
-}
-
-fn is_parallelize(word: DirectiveWord) -> bool
-    ensures { result ≡ is_word_parallelize word }
-{
-    matches!(word, DirectiveWord::Parallelize)
-}
-
-fn has_both(unit: &Unit) -> bool
-    ensures { result ≡ (has_directive is_word_define unit.now.marks && has_directive is_word_parallelize unit.now.marks) }
-{
-    defines(unit.marks.items()) && parallelizes(unit.marks.items())
-}
-
-// Whether the unit is written for one column.
-fn is_column_unit(unit: &Unit) -> bool
-    ensures { result ≡ is_column unit.now }
-{
-    has_both(unit)
-}
-
-fn defines(marks: &[Directive]) -> bool
-    ensures { result ≡ has_directive is_word_define marks.now }
-{
-    marks.iter().any(|mark| is_define(mark.word))
-}
-
-fn parallelizes(marks: &[Directive]) -> bool
-    ensures { result ≡ has_directive is_word_parallelize marks.now }
-{
-    marks.iter().any(|mark| is_parallelize(mark.word))
-}
+use translated_programs::is_column_unit;
 
 fn column_units(units: &[Unit]) -> usize
     ensures { result ≡ count_by is_column units.now }

@@ -1,6 +1,6 @@
 use Rattle.std.proofs.Common.{◌≡◌, take}
 use Rattle.std.specs.Prelude.{count_by}
-use Rattle.claw_top.specs.Compile.{is_column}
+use Rattle.translated_programs.specs.NotBuilt.{is_column}
 use Rattle.claw_top.proofs.counting.column_units.Given as goal
 
 abbrev pub invariant-loop-unit : goal.invariant-loop-unit
