@@ -39,6 +39,33 @@ fn translates_one_unit(rt: HostRuntime) -> Result<(), Fail> {
     Ok(())
 }
 
+const PHYSICS: &str =
+    "module m\n  integer :: total\ncontains\n  integer function twice(n)\n    integer, intent(in) :: n\n    twice = 2*n\n  end function\nend module\nsubroutine s(n, q)\n  use m\n  integer :: k\n  integer, intent(inout) :: q(n)\n  integer, intent(in) :: n\n  integer, parameter :: one = 1\n  do k = one, n; q(k) = q(k) + twice(k); end do\n  if (n > 3) total = sum(q)\nend\n";
+
+const WRITTEN_PHYSICS: &str =
+    "module m\n  implicit none\n  integer :: total\ncontains\n  function twice(n)\n    integer, intent(in) :: n\n    integer :: twice\n    twice = 2*n\n  end function twice\nend module m\nsubroutine s(n, q)\n  use m\n  implicit none\n  integer, parameter :: one = 1\n  integer, intent(in) :: n\n  integer :: k\n  integer, intent(inout) :: q(n)\n  do k = one, n\n    q(k) = q(k)+twice(k)\n  end do\n  if (n > 3) total = sum(q)\nend subroutine s\n";
+
+// What a source is translated to.
+fn is_translated(rt: &HostRuntime, source: &str, text: &[u8]) -> Result<bool, AllocError> {
+    let mut shelf = shelf_of(rt.alloc(), source)?;
+    let mut out = sink(rt.alloc())?;
+    let mut err = sink(rt.alloc())?;
+    let words = ["claw", "translate", "one.f90"];
+    let status = claw(rt.alloc(), &words, &mut shelf, &mut out, &mut err);
+    Ok(status == 0 && out.text() == text)
+}
+
+// Units without columns are written with their declarations in groups, beside units for all columns.
+#[test]
+fn translates_other_units(rt: HostRuntime) -> Result<(), Fail> {
+    let both = format!(in rt.alloc(); "{PHYSICS}{SOURCE}")?;
+    let written = format!(in rt.alloc(); "{WRITTEN_PHYSICS}{TRANSLATED}")?;
+    assert!(rt; is_translated(&rt, PHYSICS, WRITTEN_PHYSICS.as_bytes())?);
+    assert!(rt; is_translated(&rt, both.as_str(), written.as_bytes())?);
+    assert!(rt; is_translated(&rt, "  module m\n  end module\n", b"module m\n  implicit none\nend module m\n".as_slice())?);
+    Ok(())
+}
+
 // Each prefix of a source is translated or refused, and a refusal writes nothing.
 #[test]
 fn prefixes(rt: HostRuntime) -> Result<(), Fail> {
@@ -75,12 +102,24 @@ fn refusals(rt: HostRuntime) -> Result<(), Fail> {
             "one.f90:5:11: E30 undeclared name\n",
         ),
         (
-            "  module m\n  end module\n",
-            "one.f90:1:3: E20 not in the profile 13\n",
+            "module m\ncontains\n  subroutine s(a)\n    integer, intent(out) :: a\n    !$claw define dimension c(1:n) parallelize data(a)\n  end\nend\n",
+            "one.f90:3:3: E20 not in the profile 13\n",
         ),
         (
-            "  subroutine s(a)\n    integer, intent(in) :: a\n  end\n",
-            "one.f90:1:3: E20 not in the profile 13\n",
+            "subroutine t(x)\n  integer, intent(out) :: x\n  call s(x)\nend\nsubroutine s(a)\n  integer, intent(out) :: a\n  !$claw define dimension c(1:n) parallelize data(a)\n  a = 1\nend\n",
+            "one.f90:3:3: E20 not in the profile 13\n",
+        ),
+        (
+            "subroutine t(x)\n  integer, intent(inout) :: x(3)\n  integer :: k\n  !$claw loop-fusion\n  do k = 1, 3\n    x(k) = k\n  end do\nend\n",
+            "one.f90:4:3: E20 not in the profile 13\n",
+        ),
+        (
+            "subroutine n\nend\nsubroutine s(a)\n  integer, intent(out) :: a\n  !$claw define dimension c(1:n) parallelize data(a)\n  a = 1\nend\n",
+            "one.f90:5:3: E20 not in the profile 13\n",
+        ),
+        (
+            "subroutine s(a)\n  integer, intent(in) :: a\n  !$claw define dimension c(1:n) parallelize data(a)\n  a = 1\nend\n",
+            "one.f90:4:3: E3A write\n",
         ),
         (
             "subroutine s(a)\n  integer, intent(out) :: a\n  !$claw define dimension c(1:n) parallelize data(a)\n  call f\nend\n",
