@@ -7,3 +7,4 @@ pub mod Entering
 pub mod Running
 pub mod Interfaces
 pub mod Grouping
+pub mod Marked
