@@ -8,3 +8,4 @@ pub mod Running
 pub mod Interfaces
 pub mod Grouping
 pub mod Marked
+pub mod Naming

@@ -1,7 +1,7 @@
 -- Two scenes in which names mean the same and callees are alike: expressions and statements without directives have alike
 -- courses in both.
-use Rattle.std.proofs.Common.{◌≡◌, ℕ, zero, suc, ℤ, pos, ◌+ℤ◌, refl, ap, List, [], ◌∷◌, ◌++◌, map, Bool, true, false, Option, Some, None}
-use Rattle.std.specs.Prelude.{if◌then◌else◌, ◌&&◌, not, is_none, ⊤}
+use Rattle.std.proofs.Common.{◌≡◌, ℕ, ℤ, pos, ◌+ℤ◌, refl, List, [], ◌∷◌, Bool, true, false, Option, Some, None}
+use Rattle.std.specs.Prelude.{◌&&◌, is_none}
 use Rattle.std.specs.List.{list_any}
 use Rattle.std.proofs.lemmas.Bool.{false≢true}
 use Rattle.fort_arith.specs.declared.kind.Kind.{Kind}
@@ -10,11 +10,11 @@ use Rattle.fort_arith.specs.declared.op.Intrinsic.TheVariants.{Abs, Int, Max, Mi
 use Rattle.fort_tree.specs.Intrinsic.{intrinsic_named}
 use Rattle.courses.specs.Element.{Value, Element}
 use Rattle.courses.specs.Interaction.{Turn}
-use Rattle.courses.specs.Course.{Sort, Number, Item, Way, Many, Normal, Exits, Cycles, Returns, Answer, Course, Give, Fail, and_then}
-use Rattle.claw_meaning.specs.Syntax.{Text, Expr, Numeral, Boolean, Name, Reference, Signed, Binary, Paren, Subscripts, No_more, At, Section, Between, Limit, Unbounded, Bounded, Head, Range, Directive, Stmt, Assign, Call, If, Select, Do, Block, Piece, Exit, Cycle, Return, Stmts, Done, Then, Arms, No_arm, Arm, Cases, No_case, Case, Otherwise, Nothing_else, Else}
-use Rattle.claw_meaning.specs.Scene.{Bounds, Meant, Unmeant, Held, Known, Called, Dummy, Passed, Callee, Scene, kind_meant, bounds_meant}
-use Rattle.claw_meaning.specs.Evaluation.{kind_in, with_whole, with_truth, referred, intrinsic, read, extent_asked, array_named, dimension_asked, is_variable, shapes, shapes_of_all, shape_among, agree, offsets_of, value, values, subscripts, place, arguments, function_called, first_bounds, other_bounds, settled, all_settled, limit_settled}
-use Rattle.claw_meaning.specs.Statements.{Stored, one_assigned, all_assigned, put_stored, array_assigned, assigned, assignment, tested, looped, privates_of, with_scalar, step_settled, step_value, head_evaluated, loop, holds, called, subroutine_called, meaning, meanings, first_true, first_holding, meaning_otherwise}
+use Rattle.courses.specs.Course.{Sort, Number, Item, Way, Many, Normal, Exits, Cycles, Returns, Course, and_then}
+use Rattle.claw_meaning.specs.Syntax.{Text, Expr, Numeral, Boolean, Name, Reference, Signed, Binary, Paren, Subscripts, No_more, At, Section, Between, Limit, Unbounded, Bounded, Head, Directive, Stmt, Assign, Call, If, Select, Do, Block, Piece, Exit, Cycle, Return, Stmts, Done, Then, Arms, No_arm, Arm, Cases, No_case, Case, Otherwise, Nothing_else, Else}
+use Rattle.claw_meaning.specs.Scene.{Bounds, Meant, Unmeant, Held, Known, Called, Dummy, Passed, Callee, Scene, bounds_meant}
+use Rattle.claw_meaning.specs.Evaluation.{kind_in, with_whole, referred, intrinsic, extent_asked, array_named, dimension_asked, is_variable, shapes, shapes_of_all, shape_among, agree, offsets_of, value, values, subscripts, place, arguments, function_called, first_bounds, other_bounds, settled, all_settled, limit_settled}
+use Rattle.claw_meaning.specs.Statements.{Stored, one_assigned, all_assigned, assigned, assignment, tested, step_settled, step_value, head_evaluated, loop, holds, called, subroutine_called, meaning, meanings, first_true, first_holding, meaning_otherwise}
 use Rattle.plain_units.specs.Undirected.{is_undirected, are_undirected, arms_undirected, cases_undirected, otherwise_undirected}
 use Rattle.plain_units.specs.Calling.{Refers, AllRefer, LimitRefers, OptionRefers, HeadRefers, Calls, AllCall, ArmsCall, CasesCall, OtherwiseCalls}
 use Rattle.plain_units.proofs.Alike.{Alike, gives, fails, tells, alike_then}

@@ -1,7 +1,7 @@
 -- What statements call: the names in their CALLs, and those that they refer to with parentheses.
 use Rattle.std.specs.Prelude.{◌≡◌, Option, Some, None, Bool, false, ⊤}
 use Rattle.claw_meaning.specs.Syntax.{Text, Expr, Numeral, Boolean, Name, Reference, Signed, Binary, Paren, Subscripts, No_more, At, Section, Between, Limit, Unbounded, Bounded, Head, Stmt, Assign, Call, If, Select, Do, Block, Piece, Exit, Cycle, Return, Stmts, Done, Then, Arms, No_arm, Arm, Cases, No_case, Case, Otherwise, Nothing_else, Else, Unit, Program}
-use Rattle.claw_meaning.specs.Scope.{Entity, Unknown, Variable, Constant, Procedure, visible, unit_named}
+use Rattle.claw_meaning.specs.Scope.{Entity, Procedure, visible, unit_named}
 use Rattle.claw_meaning.specs.Dependence.{is_column_called}
 
 -- each of these names is so
