@@ -58,15 +58,15 @@ module _ (m : Text → Meant) (f f' : Text → Callee) (IsSo : Text → Type 0)
   subroutine_argued : (a a' : Arguing Way) → ArgueAlike {k = Way} a a' → (g h : Callee) → AlikeCallees g h → Alike Way (a g.dummies (subroutine_called g)) (a' h.dummies (subroutine_called h))
   subroutine_argued a a' argue _ _ (callees dummies owns r q alike) = argue dummies _ _ (subroutine_alike _ _ (callees dummies owns r q alike))
 
-  referred_alike : (n : Meant) → ((unit : Text) (kind : Kind) → n ≡ Called unit kind → AlikeCallees (f unit) (f' unit)) → (which : Option Intrinsic) (kind : Kind) (subs : Subscripts)
+  referred_alike : (n : Meant) (which : Option Intrinsic) → (which ≡ None → (unit : Text) (kind : Kind) → n ≡ Called unit kind → AlikeCallees (f unit) (f' unit)) → (kind : Kind) (subs : Subscripts)
       (at at' : List ℤ → Course (Many Item)) (q q' : Course (Many Number)) (a a' : Arguing Item)
       → ((o : List ℤ) → Alike (Many Item) (at o) (at' o)) → Alike (Many Number) q q' → ArgueAlike {k = Item} a a' → (offsets : List ℤ)
       → Alike Item (referred c n which kind subs at q a offsets) (referred c' n which kind subs at' q' a' offsets)
-  referred_alike n t (Some which) kind subs at at' q q' a a' i j k offsets = intrinsic_alike which kind subs at at' i offsets
-  referred_alike Unmeant t None kind subs at at' q q' a a' i j k offsets = fails
-  referred_alike (Held v) t None kind subs at at' q q' a a' i j k offsets = alike_then q q' _ _ j (read_same v)
-  referred_alike (Known kind' value) t None kind subs at at' q q' a a' i j k offsets = fails
-  referred_alike (Called unit kind') t None kind subs at at' q q' a a' i j k offsets = function_argued a a' k (f unit) (f' unit) (t unit kind' refl)
+  referred_alike n (Some which) t kind subs at at' q q' a a' i j k offsets = intrinsic_alike which kind subs at at' i offsets
+  referred_alike Unmeant None t kind subs at at' q q' a a' i j k offsets = fails
+  referred_alike (Held v) None t kind subs at at' q q' a a' i j k offsets = alike_then q q' _ _ j (read_same v)
+  referred_alike (Known kind' value) None t kind subs at at' q q' a a' i j k offsets = fails
+  referred_alike (Called unit kind') None t kind subs at at' q q' a a' i j k offsets = function_argued a a' k (f unit) (f' unit) (t refl unit kind' refl)
 
   mutual
     pub value_alike : (e : Expr) → Refers IsSo e → (offsets : List ℤ) → Alike Item (value c e offsets) (value c' e offsets)
@@ -74,7 +74,7 @@ module _ (m : Text → Meant) (f f' : Text → Callee) (IsSo : Text → Type 0)
     value_alike (Boolean b) h offsets = truth_same b
     value_alike (Name x) h offsets = named_same (m x) offsets
     value_alike (Reference x subs) h offsets =
-        referred_alike (m x) (λ unit kind e. alike_callees x unit kind h.0 e) (intrinsic_named x) (kind_in c (Reference x subs)) subs _ _ _ _ _ _
+        referred_alike (m x) (intrinsic_named x) (λ plain unit kind e. alike_callees x unit kind (h.0 plain) e) (kind_in c (Reference x subs)) subs _ _ _ _ _ _
         (λ os. values_alike subs h.1 os) (subscripts_alike subs h.1 offsets) (λ ds g g' a. arguments_alike subs h.1 ds g g' a) offsets
     value_alike (Signed sign e) h offsets = alike_then (value c e offsets) (value c' e offsets) _ _ (value_alike e h offsets) (with_sign_same sign (kind_in c e))
     value_alike (Binary op a b) h offsets =

@@ -1,5 +1,7 @@
--- What statements call: the names in their CALLs, and those that they refer to with parentheses.
+-- What statements call: the names in their CALLs, and those that they refer to with parentheses, but for the intrinsic
+-- functions.
 use Rattle.std.specs.Prelude.{◌≡◌, Option, Some, None, Bool, false, ⊤}
+use Rattle.fort_tree.specs.Intrinsic.{intrinsic_named}
 use Rattle.claw_meaning.specs.Syntax.{Text, Expr, Numeral, Boolean, Name, Reference, Signed, Binary, Paren, Subscripts, No_more, At, Section, Between, Limit, Unbounded, Bounded, Head, Stmt, Assign, Call, If, Select, Do, Block, Piece, Exit, Cycle, Return, Stmts, Done, Then, Arms, No_arm, Arm, Cases, No_case, Case, Otherwise, Nothing_else, Else, Unit, Program}
 use Rattle.claw_meaning.specs.Scope.{Entity, Procedure, visible, unit_named}
 use Rattle.claw_meaning.specs.Dependence.{is_column_called}
@@ -11,7 +13,7 @@ module _ (IsSo : Text → Type 0) where
     Refers (Numeral n suffix) = ⊤
     Refers (Boolean b) = ⊤
     Refers (Name x) = ⊤
-    Refers (Reference x subs) = IsSo x × AllRefer subs
+    Refers (Reference x subs) = (intrinsic_named x ≡ None → IsSo x) × AllRefer subs
     Refers (Signed sign e) = Refers e
     Refers (Binary op a b) = Refers a × Refers b
     Refers (Paren e) = Refers e
