@@ -9,3 +9,4 @@ pub mod Interfaces
 pub mod Grouping
 pub mod Marked
 pub mod Naming
+pub mod Building

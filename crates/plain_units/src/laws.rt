@@ -1,7 +1,7 @@
 //! What a unit without columns keeps.
 
 ghost use Rattle.std.specs.List.{IsDistinct};
-ghost use Rattle.std.specs.Prelude.{◌≡◌, ℕ, Bool, true, Some, false, map, slice_get};
+ghost use Rattle.std.specs.Prelude.{◌≡◌, ◌++◌, ℕ, List, [], ◌∷◌, Bool, true, Some, false, length, map, slice_get};
 ghost use Rattle.std.specs.Str.{bytes_eq};
 ghost use Rattle.courses.specs.Plans.{Plan};
 ghost use Rattle.claw_meaning.specs.Syntax.{Text, Unit, Program};
@@ -12,7 +12,7 @@ ghost use Rattle.claw_meaning.specs.Kept.{KeepsUnit};
 ghost use Rattle.claw_meaning.specs.Interface.{widening_of, UnitInterface};
 ghost use Rattle.claw_meaning.specs.Erasure.{bare_unit, erased_unit};
 ghost use Rattle.claw_meaning.specs.Spread.{are_unmarked, has_routine};
-ghost use Rattle.plain_units.specs.Translated.{Translates, TranslatesUnit, ArePlain};
+ghost use Rattle.plain_units.specs.Translated.{Translates, TranslatesUnit, TranslatesUnits, ArePlain};
 
 /// In a translated program, under every plan and from every frame, a plain unit traps where it did, else leaves what it left,
 /// and runs no marked loop.
@@ -34,4 +34,10 @@ pub fn plain_units_written()
 /// translated program.
 pub fn column_units_translated()
     ensures { (s : Program) (u t : Unit) (wide : Text → Bool) → is_column_unit u ≡ true → UnitInterface s u t (widening_of s u wide) → IsDistinct bytes_eq (map (λ d. d.name) u.decls) → TranslatesUnit u t }
+{}
+
+/// The units of a translated program come one after another, or each at the number of the unit that it is made of.
+pub fn translated_unit_by_unit()
+    ensures last { (us ts : List Unit) (u t : Unit) → TranslatesUnits us ts → TranslatesUnit u t → TranslatesUnits (us ++ u ∷ []) (ts ++ t ∷ []) }
+    ensures each { (us ts : List Unit) → length ts ≡ length us → ((i : ℕ) (u t : Unit) → slice_get us i ≡ Some u → slice_get ts i ≡ Some t → TranslatesUnit u t) → TranslatesUnits us ts }
 {}
