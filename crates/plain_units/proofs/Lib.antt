@@ -10,3 +10,4 @@ pub mod Grouping
 pub mod Marked
 pub mod Naming
 pub mod Building
+pub mod Combining

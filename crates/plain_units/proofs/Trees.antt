@@ -194,7 +194,7 @@ module _ (m : Text → Meant) (f f' : Text → Callee) (IsSo : Text → Type 0)
       all_settled_alike args h [] _ _ (λ o i. subroutine_argued (λ ds g. arguments c o ds g) (λ ds g. arguments c' o ds g) (λ ds g g' a. arguments_alike o i ds g g' a) (f unit) (f' unit) (t unit kind refl))
 
   mutual
-    pub meaning_alike : (s : Stmt) → Calls IsSo s → is_undirected s ≡ true → Alike Way (meaning c s) (meaning c' s)
+    pub meaning_alike : (s : Stmt) → Calls IsSo IsSo s → is_undirected s ≡ true → Alike Way (meaning c s) (meaning c' s)
     meaning_alike (Assign left right) h u = tells Turn _ _ (assignment_alike left right h.0 h.1)
     meaning_alike (Call x args forward) h u = tells Turn _ _ (called_alike (m x) (λ unit kind e. alike_callees x unit kind h.0 e) args h.1)
     meaning_alike (If arms other) h u =
@@ -212,24 +212,24 @@ module _ (m : Text → Meant) (f f' : Text → Callee) (IsSo : Text → Type 0)
     meaning_alike Cycle h u = tells Turn _ _ (gives {k = Way} Cycles)
     meaning_alike Return h u = tells Turn _ _ (gives {k = Way} Returns)
 
-    pub meanings_alike : (s : Stmts) → AllCall IsSo s → are_undirected s ≡ true → Alike Way (meanings c s) (meanings c' s)
+    pub meanings_alike : (s : Stmts) → AllCall IsSo IsSo s → are_undirected s ≡ true → Alike Way (meanings c s) (meanings c' s)
     meanings_alike Done h u = gives {k = Way} Normal
     meanings_alike (Then s rest) h u =
         let w = both (is_undirected s) (are_undirected rest) u in
         alike_then (meaning c s) (meaning c' s) _ _ (meaning_alike s h.0 w.0) (λ g. then_run_alike g _ _ (meanings_alike rest h.1 w.1))
 
-    pub first_true_alike : (arms : Arms) → ArmsCall IsSo arms → arms_undirected arms ≡ true → (r r' : Course Way) → Alike Way r r' → Alike Way (first_true c arms r) (first_true c' arms r')
+    pub first_true_alike : (arms : Arms) → ArmsCall IsSo IsSo arms → arms_undirected arms ≡ true → (r r' : Course Way) → Alike Way r r' → Alike Way (first_true c arms r) (first_true c' arms r')
     first_true_alike No_arm h u r r' a = a
     first_true_alike (Arm test body rest) h u r r' a =
         let w = both (are_undirected body) (arms_undirected rest) u in
         tested_alike test h.0 _ _ (λ b. chosen_alike b _ _ _ _ (meanings_alike body h.1 w.0) (first_true_alike rest h.2 w.1 r r' a))
 
-    pub first_holding_alike : (cases : Cases) → CasesCall IsSo cases → cases_undirected cases ≡ true → (n : ℤ) (r r' : Course Way) → Alike Way r r' → Alike Way (first_holding c cases n r) (first_holding c' cases n r')
+    pub first_holding_alike : (cases : Cases) → CasesCall IsSo IsSo cases → cases_undirected cases ≡ true → (n : ℤ) (r r' : Course Way) → Alike Way r r' → Alike Way (first_holding c cases n r) (first_holding c' cases n r')
     first_holding_alike No_case h u n r r' a = a
     first_holding_alike (Case ranges body rest) h u n r r' a =
         let w = both (are_undirected body) (cases_undirected rest) u in
         if_alike (list_any (holds c n) ranges) _ _ _ _ (meanings_alike body h.0 w.0) (first_holding_alike rest h.1 w.1 n r r' a)
 
-    pub otherwise_alike : (o : Otherwise) → OtherwiseCalls IsSo o → otherwise_undirected o ≡ true → Alike Way (meaning_otherwise c o) (meaning_otherwise c' o)
+    pub otherwise_alike : (o : Otherwise) → OtherwiseCalls IsSo IsSo o → otherwise_undirected o ≡ true → Alike Way (meaning_otherwise c o) (meaning_otherwise c' o)
     otherwise_alike Nothing_else h u = gives {k = Way} Normal
     otherwise_alike (Else body) h u = meanings_alike body h u

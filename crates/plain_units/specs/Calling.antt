@@ -6,7 +6,7 @@ use Rattle.claw_meaning.specs.Syntax.{Text, Expr, Numeral, Boolean, Name, Refere
 use Rattle.claw_meaning.specs.Scope.{Entity, Procedure, visible, unit_named}
 use Rattle.claw_meaning.specs.Dependence.{is_column_called}
 
--- each of these names is so
+-- each name that is referred to with parentheses is so
 module _ (IsSo : Text → Type 0) where
   abbrev mutual
     pub Refers : Expr → Type 0
@@ -35,13 +35,15 @@ module _ (IsSo : Text → Type 0) where
   abbrev pub HeadRefers : Head → Type 0
   HeadRefers h = Refers h.from × Refers h.to × OptionRefers h.step
 
+-- each name in a CALL is so, and each that is referred to is so
+module _ (IsCalled IsReferred : Text → Type 0) where
   abbrev mutual
     pub Calls : Stmt → Type 0
-    Calls (Assign left right) = Refers left × Refers right
-    Calls (Call x args forward) = IsSo x × AllRefer args
+    Calls (Assign left right) = Refers IsReferred left × Refers IsReferred right
+    Calls (Call x args forward) = IsCalled x × AllRefer IsReferred args
     Calls (If arms other) = ArmsCall arms × OtherwiseCalls other
-    Calls (Select e cases other) = Refers e × CasesCall cases × OtherwiseCalls other
-    Calls (Do h body mark) = HeadRefers h × AllCall body
+    Calls (Select e cases other) = Refers IsReferred e × CasesCall cases × OtherwiseCalls other
+    Calls (Do h body mark) = HeadRefers IsReferred h × AllCall body
     Calls (Block d body) = AllCall body
     Calls (Piece body) = AllCall body
     Calls Exit = ⊤
@@ -54,7 +56,7 @@ module _ (IsSo : Text → Type 0) where
 
     pub ArmsCall : Arms → Type 0
     ArmsCall No_arm = ⊤
-    ArmsCall (Arm test body rest) = Refers test × AllCall body × ArmsCall rest
+    ArmsCall (Arm test body rest) = Refers IsReferred test × AllCall body × ArmsCall rest
 
     pub CasesCall : Cases → Type 0
     CasesCall No_case = ⊤
@@ -74,4 +76,4 @@ runs_column p u x = is_column_called (unit_run p (visible p u x))
 
 -- the unit calls no column unit
 abbrev pub CallsPlain : Program → Unit → Type 0
-CallsPlain p u = AllCall (λ x. runs_column p u x ≡ false) u.body
+CallsPlain p u = AllCall (λ x. runs_column p u x ≡ false) (λ x. runs_column p u x ≡ false) u.body

@@ -1,7 +1,7 @@
 //! What a unit without columns keeps.
 
 ghost use Rattle.std.specs.List.{IsDistinct};
-ghost use Rattle.std.specs.Prelude.{◌≡◌, ◌++◌, ℕ, List, [], ◌∷◌, Bool, true, Some, false, length, map, slice_get};
+ghost use Rattle.std.specs.Prelude.{◌≡◌, ◌++◌, ℕ, List, [], ◌∷◌, Bool, true, Some, false, length, map, slice_get, ⊤};
 ghost use Rattle.std.specs.Str.{bytes_eq};
 ghost use Rattle.courses.specs.Plans.{Plan};
 ghost use Rattle.claw_meaning.specs.Syntax.{Text, Unit, Program};
@@ -12,6 +12,7 @@ ghost use Rattle.claw_meaning.specs.Kept.{KeepsUnit};
 ghost use Rattle.claw_meaning.specs.Interface.{widening_of, UnitInterface};
 ghost use Rattle.claw_meaning.specs.Erasure.{bare_unit, erased_unit};
 ghost use Rattle.claw_meaning.specs.Spread.{are_unmarked, has_routine};
+ghost use Rattle.plain_units.specs.Calling.{runs_column, AllCall, CallsPlain};
 ghost use Rattle.plain_units.specs.Translated.{Translates, TranslatesUnit, TranslatesUnits, ArePlain};
 
 /// In a translated program, under every plan and from every frame, a plain unit traps where it did, else leaves what it left,
@@ -40,4 +41,9 @@ pub fn column_units_translated()
 pub fn translated_unit_by_unit()
     ensures last { (us ts : List Unit) (u t : Unit) → TranslatesUnits us ts → TranslatesUnit u t → TranslatesUnits (us ++ u ∷ []) (ts ++ t ∷ []) }
     ensures each { (us ts : List Unit) → length ts ≡ length us → ((i : ℕ) (u t : Unit) → slice_get us i ≡ Some u → slice_get ts i ≡ Some t → TranslatesUnit u t) → TranslatesUnits us ts }
+{}
+
+/// A unit calls no column unit where none of its CALLs does and it refers to none.
+pub fn calls_and_references()
+    ensures { (s : Program) (u : Unit) → AllCall (λ x. runs_column s u x ≡ false) (λ x. ⊤) u.body → AllCall (λ x. ⊤) (λ x. runs_column s u x ≡ false) u.body → CallsPlain s u }
 {}

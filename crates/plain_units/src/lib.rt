@@ -8,7 +8,8 @@ mod undirected;
 
 pub use columns::is_column_unit;
 pub use laws::{
-    column_units_translated, plain_units_kept, plain_units_written, translated_unit_by_unit,
+    calls_and_references, column_units_translated, plain_units_kept, plain_units_written,
+    translated_unit_by_unit,
 };
 pub use regrouping::regrouped;
 pub use undirected::is_undirected;
