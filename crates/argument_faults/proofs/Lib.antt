@@ -1,0 +1,9 @@
+pub mod SharesAre
+pub mod WritesAre
+pub mod Merging
+pub mod ModuleWritesAre
+pub mod Inserting
+pub mod Reached
+pub mod InReach
+pub mod AliasesAre
+pub mod Growing
