@@ -7,3 +7,4 @@ pub mod Reached
 pub mod InReach
 pub mod AliasesAre
 pub mod Growing
+pub mod Onwards

@@ -1,50 +1,64 @@
--- What units reach by references: which units, the module variables that these name, and those that they write.
-use Rattle.std.specs.Prelude.{◌≡◌, List, [], ◌∷◌, ◌++◌, map, Option, Some, None, Bool, true, false, if◌then◌else◌}
+-- What units, and those that they reach by references, name and write.
+use Rattle.std.specs.Prelude.{◌≡◌, ◌<◌, ℕ, Bool, true, List, [], flat_map, length, Option, Some, None, slice_get, slice_index_or}
 use Rattle.std.specs.Option.{option_map, option_to_list}
-use Rattle.fort_tree.specs.declared.place.Place.{Place}
 use Rattle.fort_tree.specs.declared.unit.File.{File}
+use Rattle.fort_tree.specs.declared.unit.Unit as tree_unit
 use Rattle.claw_meaning.specs.Syntax.{Text}
-use Rattle.sound_programs.specs.ArgumentFaults.{module_variables_of, module_writes}
-use Rattle.sound_programs.specs.CallFaults.{calls}
+use Rattle.numbered_graph.specs.Graphs.{stands}
+use Rattle.sound_programs.specs.ArgumentFaults.{is_named_by, module_variables_of, module_writes, reached_from}
 use Rattle.sound_programs.specs.Faults.{Found}
-use Rattle.sound_programs.specs.Links.{leads}
-use Rattle.sound_programs.specs.Placed.{Program, bare_program}
-use Rattle.sound_programs.specs.Placing.{placed}
+use Rattle.sound_programs.specs.Placed.{bare_program}
+use Rattle.sound_programs.specs.Placing.{placed, placed_unit}
 use Rattle.fort_names.specs.declared.least.At.{At}
 use Rattle.fort_names.specs.FoundAt.{found_of}
-use Rattle.argument_faults.specs.declared.reach.Reach.{Reach}
-use Rattle.argument_faults.specs.Behind.{rows_of}
+use Rattle.argument_faults.specs.declared.reached.Reached.{Reached}
+use Rattle.argument_faults.specs.Marking.{is_marked}
 use Rattle.argument_faults.specs.ModuleNames.{HasSame}
 use Rattle.argument_faults.specs.ModuleWrites.{IsFirstWrite}
 
--- for each unit whether the name leads to it
-abbrev pub seen_from : Program → Text → List Bool
-seen_from p x = map (λ u. leads (calls p) x u.name) p.units
+-- each unit of the file has a row of the variables that it names
+pub record AreNamed (f : File) (rows : List (List (Text × Text))) : Type 0 where
+  pub same_length : length rows ≡ length f.units
+  pub named : (n : ℕ) (u : tree_unit.Unit) → slice_get f.units n ≡ Some u → HasSame (slice_index_or rows n []) (module_variables_of (bare_program (placed f)) (placed_unit u))
 
-abbrev pub AllSame : List (List (Text × Text)) → List (List (Text × Text)) → Type 0
-AllSame [] [] = Unit {0}
-AllSame [] (b ∷ bs) = ⊥
-AllSame (a ∷ rest) [] = ⊥
-AllSame (a ∷ rest) (b ∷ bs) = HasSame a b × AllSame rest bs
+-- just those variables are marked that the unit, or one that it reaches, names
+pub record IsNamedFrom (f : File) (variables : List (Text × Text)) (u : tree_unit.Unit) (marks : List Bool) : Type 0 where
+  pub same_length : length marks ≡ length variables
+  pub marked : (v : Text × Text) → is_marked variables marks v ≡ is_named_by (placed f) (bare_program (placed f)) u.name v
 
-abbrev pub AllFirst : List (List Place) → List (Option At) → Type 0
-AllFirst [] [] = Unit {0}
-AllFirst [] (b ∷ bs) = ⊥
-AllFirst (a ∷ rest) [] = ⊥
-AllFirst (a ∷ rest) (b ∷ bs) = IsFirstWrite a b × AllFirst rest bs
+pub record AreNamedFrom (f : File) (variables : List (Text × Text)) (rows : List (List Bool)) : Type 0 where
+  pub same_length : length rows ≡ length f.units
+  pub named : (n : ℕ) (u : tree_unit.Unit) → slice_get f.units n ≡ Some u → IsNamedFrom f variables u (slice_index_or rows n [])
 
--- what the units of a file reach, name and write
-pub record IsReach (f : File) (r : Reach) : Type 0 where
-  pub seen : r.seen.items ≡ map (λ u. seen_from (placed f) u.name) (placed f).units
-  pub variables : AllSame (rows_of r.variables.items) (map (module_variables_of (bare_program (placed f))) (placed f).units)
-  pub writes : AllFirst (map (module_writes (bare_program (placed f))) (placed f).units) r.writes.items
+-- for each unit of the file what it, or a unit that it reaches, names
+pub record IsReached (f : File) (r : Reached) : Type 0 where
+  pub marked : AreNamedFrom f r.variables r.marks.items
 
-abbrev pub write_if : Bool → Option At → List Found
-write_if true write = option_to_list (option_map found_of write)
-write_if false write = []
+-- it is where the unit, or one that it reaches, first writes a module variable
+abbrev pub IsWrittenFrom : File → tree_unit.Unit → Option At → Type 0
+IsWrittenFrom f u write = IsFirstWrite (flat_map (module_writes (bare_program (placed f))) (reached_from (placed f) u.name)) write
 
--- the writes of the units that are seen
-abbrev pub writes_seen : List Bool → List (Option At) → List Found
-writes_seen seen [] = []
-writes_seen [] (w ∷ ws) = []
-writes_seen (s ∷ seen) (w ∷ ws) = write_if s w ++ writes_seen seen ws
+pub record AreWrittenFrom (f : File) (writes : List (Option At)) : Type 0 where
+  pub same_length : length writes ≡ length f.units
+  pub written : (n : ℕ) (u : tree_unit.Unit) → slice_get f.units n ≡ Some u → IsWrittenFrom f u (slice_index_or writes n None)
+
+-- the fault that a write is, if there is one
+abbrev pub fault_of : Option At → List Found
+fault_of write = option_to_list (option_map found_of write)
+
+-- the write of a unit, and those of the units of these numbers
+abbrev pub faults_at : List (Option At) → List ℕ → List Found
+faults_at writes numbers = flat_map (λ k. fault_of (slice_index_or writes k None)) numbers
+
+-- these numbers have writes
+pub record AreThere (writes : List (Option At)) (numbers : List ℕ) : Type 0 where
+  pub there : (k : ℕ) → stands k numbers ≡ true → k < length writes
+
+-- the table has the unit of this number
+pub record HasUnit (r : Reached) (n : ℕ) : Type 0 where
+  pub there : n < length r.marks.items
+  pub same_length : length (slice_index_or r.marks.items n []) ≡ length r.variables
+
+-- the variable is marked for the unit of this number
+abbrev pub is_marked_for : Reached → ℕ → Text × Text → Bool
+is_marked_for r n v = is_marked r.variables (slice_index_or r.marks.items n []) v

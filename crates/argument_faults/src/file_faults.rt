@@ -1,19 +1,22 @@
 //! The faults of a file's actual arguments.
-ghost use Rattle.std.specs.Prelude.{◌≡◌, Some, flat_map, map, slice_get, OnOk};
+ghost use Rattle.std.specs.Prelude.{◌≡◌, [], Some, flat_map, is_some, map, slice_get, if◌then◌else◌, OnOk};
 ghost use Rattle.fort_tree.specs.declared.fault.Code.TheVariants.{E38, E3A};
-ghost use Rattle.sound_programs.specs.ArgumentFaults.{alias_faults, function_writes, write_faults, write_faults_in_unit};
-ghost use Rattle.sound_programs.specs.Faults.{found};
+ghost use Rattle.sound_programs.specs.ArgumentFaults.{alias_faults, write_faults, write_faults_in_unit};
+ghost use Rattle.sound_programs.specs.Faults.{faults_of_names, found};
 ghost use Rattle.sound_programs.specs.Placed.{bare_program};
 ghost use Rattle.sound_programs.specs.Placing.{placed, placed_unit};
 ghost use Rattle.fort_names.specs.Leasts.{noted};
 ghost use Rattle.fort_names.specs.Scoping.{AreSymbolsOf};
+ghost use Rattle.call_graph.specs.CallGraphs.{IsCallGraph};
 ghost use Rattle.argument_faults.specs.InUnits.{aliases_of};
-ghost use Rattle.argument_faults.specs.Reaching.{IsReach};
+ghost use Rattle.argument_faults.specs.Reaching.{AreWrittenFrom, IsReached, fault_of};
 
-use crate::reach::{Reach, note_writes_seen};
+use crate::reached::{Reached, reached_by};
 use crate::unit_faults::note_unit_aliases;
 use crate::writes::{note_function_dummies, note_unit_writes};
-use fort_names::{Least, Symbols};
+use crate::writes_reached::{note_write, writes_reached};
+use call_graph::Graph;
+use fort_names::{At, Least, Symbols};
 use fort_tree::{File, NoMemory, Unit};
 use std::alloc::Global;
 
@@ -23,17 +26,17 @@ fn note_aliases_of(
     least: &mut Least,
     file: &File,
     symbols: &Symbols,
-    reach: &Reach,
+    reached: &Reached,
     number: usize,
     unit: &Unit,
 ) -> Result<(), NoMemory>
     requires symbols { AreSymbolsOf file.now symbols.now }
-    requires reach { IsReach file.now reach.now }
+    requires reached { IsReached file.now reached.now }
     requires there { slice_get file.now.units number ≡ Some unit.now }
     ensures { OnOk result (least.new ≡ noted (found E38 (aliases_of (placed file.now) (placed_unit unit.now))) least.old) }
 {
     let sight = symbols.sight_of_unit(file, number);
-    note_unit_aliases(alloc, least, &sight, unit, reach)?;
+    note_unit_aliases(alloc, least, &sight, unit, reached)?;
     Ok(())
 }
 
@@ -42,16 +45,16 @@ fn note_aliases_in(
     least: &mut Least,
     file: &File,
     symbols: &Symbols,
-    reach: &Reach,
+    reached: &Reached,
     units: &[Unit],
 ) -> Result<(), NoMemory>
     requires symbols { AreSymbolsOf file.now symbols.now }
-    requires reach { IsReach file.now reach.now }
+    requires reached { IsReached file.now reached.now }
     requires units { units.now ≡ file.now.units }
     ensures { OnOk result (least.new ≡ noted (found E38 (flat_map (aliases_of (placed file.now)) (map placed_unit units.now))) least.old) }
 {
     for (number, unit) in units.iter().enumerate() {
-        note_aliases_of(alloc, least, file, symbols, reach, number, unit)?;
+        note_aliases_of(alloc, least, file, symbols, reached, number, unit)?;
     }
     Ok(())
 }
@@ -66,34 +69,25 @@ pub fn note_aliases(
     least: &mut Least,
     file: &File,
     symbols: &Symbols,
-    reach: &Reach,
+    graph: &Graph,
 ) -> Result<(), NoMemory>
     requires symbols { AreSymbolsOf file.now symbols.now }
-    requires reach { IsReach file.now reach.now }
+    requires names { faults_of_names (placed file.now) ≡ [] }
+    requires graph { IsCallGraph file.now graph.now }
     ensures { OnOk result (least.new ≡ noted (found E38 (alias_faults (placed file.now))) least.old) }
 {
-    note_aliases_in(alloc, least, file, symbols, reach, file.units.items())?;
+    let reached = reached_by(alloc, file, symbols, graph)?;
+    note_aliases_in(alloc, least, file, symbols, &reached, file.units.items())?;
     Ok(())
 }
 
 /// Notes where the unit, if it is a function, or a unit that it reaches writes a module variable.
-fn note_function_writes(
-    least: &mut Least,
-    file: &File,
-    reach: &Reach,
-    number: usize,
-    unit: &Unit,
-)
-    requires reach { IsReach file.now reach.now }
-    requires there { slice_get file.now.units number ≡ Some unit.now }
-    ensures { least.new ≡ noted (found E3A (function_writes (placed file.now) (bare_program (placed file.now)) (placed_unit unit.now))) least.old }
+fn note_function_write(least: &mut Least, unit: &Unit, write: Option<At>)
+    ensures { least.new ≡ noted (if is_some unit.now.result then fault_of write else []) least.old }
 {
     match unit.result {
         None => {}
-        Some(_) => {
-            let seen = reach.seen_from(number);
-            note_writes_seen(least, seen, reach.writes.as_slice());
-        }
+        Some(_) => note_write(least, write),
     }
 }
 
@@ -103,19 +97,19 @@ fn note_writes_of(
     least: &mut Least,
     file: &File,
     symbols: &Symbols,
-    reach: &Reach,
+    writes: &[Option<At>],
     number: usize,
     unit: &Unit,
 ) -> Result<(), NoMemory>
     requires symbols { AreSymbolsOf file.now symbols.now }
-    requires reach { IsReach file.now reach.now }
+    requires writes { AreWrittenFrom file.now writes.now }
     requires there { slice_get file.now.units number ≡ Some unit.now }
     ensures { OnOk result (least.new ≡ noted (found E3A (write_faults_in_unit (placed file.now) (bare_program (placed file.now)) (placed_unit unit.now))) least.old) }
 {
     let sight = symbols.sight_of_unit(file, number);
     note_unit_writes(alloc, least, &sight, unit)?;
     note_function_dummies(least, unit);
-    note_function_writes(least, file, reach, number, unit);
+    note_function_write(least, unit, writes[number]);
     Ok(())
 }
 
@@ -124,16 +118,16 @@ fn note_writes_in(
     least: &mut Least,
     file: &File,
     symbols: &Symbols,
-    reach: &Reach,
+    writes: &[Option<At>],
     units: &[Unit],
 ) -> Result<(), NoMemory>
     requires symbols { AreSymbolsOf file.now symbols.now }
-    requires reach { IsReach file.now reach.now }
+    requires writes { AreWrittenFrom file.now writes.now }
     requires units { units.now ≡ file.now.units }
     ensures { OnOk result (least.new ≡ noted (found E3A (flat_map (write_faults_in_unit (placed file.now) (bare_program (placed file.now))) (map placed_unit units.now))) least.old) }
 {
     for (number, unit) in units.iter().enumerate() {
-        note_writes_of(alloc, least, file, symbols, reach, number, unit)?;
+        note_writes_of(alloc, least, file, symbols, writes, number, unit)?;
     }
     Ok(())
 }
@@ -148,12 +142,14 @@ pub fn note_writes(
     least: &mut Least,
     file: &File,
     symbols: &Symbols,
-    reach: &Reach,
+    graph: &Graph,
 ) -> Result<(), NoMemory>
     requires symbols { AreSymbolsOf file.now symbols.now }
-    requires reach { IsReach file.now reach.now }
+    requires names { faults_of_names (placed file.now) ≡ [] }
+    requires graph { IsCallGraph file.now graph.now }
     ensures { OnOk result (least.new ≡ noted (found E3A (write_faults (placed file.now))) least.old) }
 {
-    note_writes_in(alloc, least, file, symbols, reach, file.units.items())?;
+    let writes = writes_reached(alloc, file, symbols, graph)?;
+    note_writes_in(alloc, least, file, symbols, writes.as_slice(), file.units.items())?;
     Ok(())
 }

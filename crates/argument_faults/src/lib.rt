@@ -4,21 +4,17 @@
 mod actuals;
 mod behind;
 mod file_faults;
+mod marks;
 mod module_names;
 mod module_writes;
-mod reach;
-mod reaching;
+mod reached;
 mod shared;
 mod sites;
+#[cfg(test)]
+mod tests;
 mod unit_faults;
+mod variable_set;
 mod writes;
+mod writes_reached;
 
-pub use actuals::{Actual, actuals_of, first, is_written};
 pub use file_faults::{note_aliases, note_writes};
-pub use module_names::{ModuleVariable, variables_named};
-pub use module_writes::first_module_write;
-pub use reach::Reach;
-pub use reaching::reach_of;
-pub use shared::note_shared_actuals;
-pub use sites::{Site, sites_of};
-pub use writes::{note_function_dummies, note_unit_writes};

@@ -17,7 +17,7 @@ use std::alloc::Global;
 use unit_steps::{Step, name_in, note_names, parts_read, steps_of};
 
 /// A variable of a module, by the names of both.
-#[derive(Clone, Copy, Debug)]
+#[derive(Clone, Copy, Debug, PartialEq, Eq, Hash)]
 pub struct ModuleVariable {
     pub home: Name,
     pub name: Name,

@@ -9,11 +9,11 @@ ghost use Rattle.fort_names.specs.Sights.{means, file_of};
 ghost use Rattle.unit_steps.specs.Behind.{placed_step, placed_steps};
 ghost use Rattle.argument_faults.specs.Actuals.{placed_actuals, placed_site, placed_sites};
 ghost use Rattle.argument_faults.specs.InUnits.{alias_in, alias_in_step, alias_in_unit, behind_in};
-ghost use Rattle.argument_faults.specs.Reaching.{IsReach};
+ghost use Rattle.argument_faults.specs.Reaching.{IsReached};
 
 use crate::actuals::{Actual, actuals_of};
 use crate::behind::note_behind;
-use crate::reach::Reach;
+use crate::reached::Reached;
 use crate::shared::note_shared_actuals;
 use crate::sites::{Site, sites_of};
 use fort_names::{Least, Meaning, Sight};
@@ -25,11 +25,11 @@ fn note_behind_callee(
     least: &mut Least,
     sight: &Sight<'_>,
     unit: &Name,
-    reach: &Reach,
+    reached: &Reached,
     callee: &Name,
     list: &[Actual<'_>],
 )
-    requires { IsReach (file_of sight.now) reach.now }
+    requires { IsReached (file_of sight.now) reached.now }
     ensures { least.new ≡ noted (found E38 (behind_in (placed (file_of sight.now)) (means sight.now) unit.now (placed_actuals list.now) (unit_of (means sight.now callee.now)))) least.old }
 {
     match sight.meaning(callee) {
@@ -37,8 +37,7 @@ fn note_behind_callee(
         Meaning::Variable(_, _) => {}
         Meaning::Constant(_) => {}
         Meaning::Unit(number, _) => {
-            let seen = reach.seen_from(number);
-            note_behind(least, sight, unit, seen, reach.variables.as_slice(), list);
+            note_behind(least, sight, unit, reached, number, list);
         }
     }
 }
@@ -48,17 +47,17 @@ fn note_site(
     least: &mut Least,
     sight: &Sight<'_>,
     unit: &Name,
-    reach: &Reach,
+    reached: &Reached,
     site: &Site<'_>,
 ) -> Result<(), NoMemory>
-    requires { IsReach (file_of sight.now) reach.now }
+    requires { IsReached (file_of sight.now) reached.now }
     ensures { OnOk result (least.new ≡ noted (found E38 (alias_in (placed (file_of sight.now)) (means sight.now) unit.now (placed_site site.now))) least.old) }
 {
     let callee = sight.unit(site.name);
     let list = actuals_of(alloc, callee, site.args)?;
     let actuals = list.as_slice();
     note_shared_actuals(alloc, least, sight, actuals)?;
-    note_behind_callee(least, sight, unit, reach, site.name, actuals);
+    note_behind_callee(least, sight, unit, reached, site.name, actuals);
     Ok(())
 }
 
@@ -67,14 +66,14 @@ fn note_sites(
     least: &mut Least,
     sight: &Sight<'_>,
     unit: &Name,
-    reach: &Reach,
+    reached: &Reached,
     list: &[Site<'_>],
 ) -> Result<(), NoMemory>
-    requires { IsReach (file_of sight.now) reach.now }
+    requires { IsReached (file_of sight.now) reached.now }
     ensures { OnOk result (least.new ≡ noted (found E38 (flat_map (alias_in (placed (file_of sight.now)) (means sight.now) unit.now) (placed_sites list.now))) least.old) }
 {
     for site in list {
-        note_site(alloc, least, sight, unit, reach, site)?;
+        note_site(alloc, least, sight, unit, reached, site)?;
     }
     Ok(())
 }
@@ -84,14 +83,14 @@ fn note_step(
     least: &mut Least,
     sight: &Sight<'_>,
     unit: &Name,
-    reach: &Reach,
+    reached: &Reached,
     step: Step<'_>,
 ) -> Result<(), NoMemory>
-    requires { IsReach (file_of sight.now) reach.now }
+    requires { IsReached (file_of sight.now) reached.now }
     ensures { OnOk result (least.new ≡ noted (found E38 (alias_in_step (placed (file_of sight.now)) (means sight.now) unit.now (placed_step step.entry))) least.old) }
 {
     let list = sites_of(alloc, sight, step)?;
-    note_sites(alloc, least, sight, unit, reach, list.as_slice())?;
+    note_sites(alloc, least, sight, unit, reached, list.as_slice())?;
     Ok(())
 }
 
@@ -100,14 +99,14 @@ fn note_steps(
     least: &mut Least,
     sight: &Sight<'_>,
     unit: &Name,
-    reach: &Reach,
+    reached: &Reached,
     steps: &[Step<'_>],
 ) -> Result<(), NoMemory>
-    requires { IsReach (file_of sight.now) reach.now }
+    requires { IsReached (file_of sight.now) reached.now }
     ensures { OnOk result (least.new ≡ noted (found E38 (flat_map (alias_in_step (placed (file_of sight.now)) (means sight.now) unit.now) (placed_steps steps.now))) least.old) }
 {
     for step in steps {
-        note_step(alloc, least, sight, unit, reach, *step)?;
+        note_step(alloc, least, sight, unit, reached, *step)?;
     }
     Ok(())
 }
@@ -121,12 +120,12 @@ pub fn note_unit_aliases(
     least: &mut Least,
     sight: &Sight<'_>,
     unit: &Unit,
-    reach: &Reach,
+    reached: &Reached,
 ) -> Result<(), NoMemory>
-    requires { IsReach (file_of sight.now) reach.now }
+    requires { IsReached (file_of sight.now) reached.now }
     ensures { OnOk result (least.new ≡ noted (found E38 (alias_in_unit (placed (file_of sight.now)) (means sight.now) (placed_unit unit.now))) least.old) }
 {
     let steps = steps_of(alloc, unit)?;
-    note_steps(alloc, least, sight, &unit.name, reach, steps.as_slice())?;
+    note_steps(alloc, least, sight, &unit.name, reached, steps.as_slice())?;
     Ok(())
 }
