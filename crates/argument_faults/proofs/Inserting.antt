@@ -61,7 +61,7 @@ module _ (test : Text → Bool) where
       go true same k rest = ap (λ z. test z || list_any test ys) (sym ((bytes_eq-Decides x y).0 same)) ∙ ap (λ b. b || list_any test ys) e
       go false same k rest = ap (λ b. test y || b) (rest k) ∙ or_true (test y)
 
-  any_with : (names : List Text) (x : Text) → list_any test (with_name names x) ≡ (list_any test names || test x)
+  pub any_with : (names : List Text) (x : Text) → list_any test (with_name names x) ≡ (list_any test names || test x)
   any_with names x = go (has names x) refl (test x) refl
     where
       go : (b : Bool) → has names x ≡ b → (t : Bool) → test x ≡ t → list_any test (if b then names else names ++ x ∷ []) ≡ (list_any test names || t)
@@ -74,7 +74,7 @@ module _ (test : Text → Bool) where
   any_inserted names (x ∷ xs) =
       any_inserted (with_name names x) xs ∙ ap (λ b. b || list_any test xs) (any_with names x) ∙ or_group (list_any test names) (test x) (list_any test xs)
 
-any_flat : {A B : Type 0} (test : B → Bool) (f : A → List B) (xs : List A) → list_any test (flat_map f xs) ≡ list_any (λ x. list_any test (f x)) xs
+pub any_flat : {A B : Type 0} (test : B → Bool) (f : A → List B) (xs : List A) → list_any test (flat_map f xs) ≡ list_any (λ x. list_any test (f x)) xs
 any_flat test f [] = refl
 any_flat test f (x ∷ xs) = any_append test (f x) (flat_map f xs) ∙ ap (λ b. list_any test (f x) || b) (any_flat test f xs)
 

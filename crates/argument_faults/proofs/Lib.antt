@@ -3,8 +3,10 @@ pub mod WritesAre
 pub mod Merging
 pub mod ModuleWritesAre
 pub mod Inserting
-pub mod Reached
-pub mod InReach
 pub mod AliasesAre
-pub mod Growing
+pub mod BehindAre
 pub mod Onwards
+pub mod InOrder
+pub mod Marked
+pub mod FromCallees
+pub mod NamedUpTo

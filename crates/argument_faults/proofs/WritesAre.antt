@@ -5,20 +5,27 @@ use Rattle.std.specs.List.{filter}
 use Rattle.std.specs.Option.{option_to_list}
 use Rattle.std.proofs.lemmas.Grind.{flat_map-append}
 use Rattle.std.proofs.lemmas.List.Elements.{filter-append}
+use Rattle.fort_tree.specs.declared.fault.Code.{Code}
+use Rattle.fort_tree.specs.declared.fault.Code.TheVariants.{E3A}
 use Rattle.fort_tree.specs.declared.place.Place.{Place}
 use Rattle.fort_tree.specs.declared.stmt.Named.{Named}
 use Rattle.fort_tree.specs.declared.unit.Decl.{Decl}
+use Rattle.fort_tree.specs.declared.unit.File.{File}
 use Rattle.fort_tree.specs.declared.unit.Unit as tree_unit
 use Rattle.claw_meaning.specs.Scope.{Entity}
 use Rattle.claw_meaning.specs.Syntax.{Text}
-use Rattle.sound_programs.specs.ArgumentFaults.{is_fixed, is_writable, assigns_fixed, passes_fixed, function_dummies}
+use Rattle.sound_programs.specs.ArgumentFaults.{is_fixed, is_writable, assigns_fixed, passes_fixed, function_dummies, function_writes, module_writes, reached_from}
+use Rattle.sound_programs.specs.Faults.{Found, found}
 use Rattle.sound_programs.specs.NameFaults.{places_where}
-use Rattle.sound_programs.specs.Placed.{Expr, Numeral, Boolean, Name, Reference, Signed, Binary, Paren, Decl as Placed_decl, first}
+use Rattle.sound_programs.specs.Placed.{Expr, Numeral, Boolean, Name, Reference, Signed, Binary, Paren, Decl as Placed_decl, first, bare_program}
 use Rattle.sound_programs.specs.Places.{where_place}
-use Rattle.sound_programs.specs.Placing.{placed_decl, placed_unit}
+use Rattle.sound_programs.specs.Placing.{placed, placed_decl, placed_unit}
 use Rattle.sound_programs.specs.Scopes.{Of_unit, is_dummy, is_written_intent}
 use Rattle.sound_programs.specs.Walks.{Step, Assigns, Calls, Tests, Chooses, Repeats, Site, Actual, actuals, is_written, left_of, name_in, named, sites}
-use Rattle.fort_names.specs.Leasts.{places_at}
+use Rattle.fort_names.specs.declared.least.At.{At}
+use Rattle.fort_names.specs.Leasts.{noted, places_at}
+use Rattle.fort_names.proofs.FirstOf.{noted_places}
+use Rattle.argument_faults.specs.Reaching.{IsWrittenFrom, fault_of}
 use Rattle.argument_faults.specs.Written.{fixed_among, fixed_on_left, unwritable_place, passed_place, passed_at, is_written_dummy}
 
 module _ (entity : Text → Entity) where
@@ -94,3 +101,18 @@ pub dummies_are : (u : tree_unit.Unit) (r : Option Named) → u.result ≡ r
 dummies_are u r e =
     ap (λ (o : Option Named). if is_some o then map (λ d. d.at) (filter (λ (d : Placed_decl). is_dummy (Of_unit (placed_unit u)) d.name && is_written_intent d.intent) (map placed_decl u.decls)) else []) e
     ∙ ap (λ l. if is_some r then l else []) (filtered (λ (d : Placed_decl). is_dummy (Of_unit (placed_unit u)) d.name && is_written_intent d.intent) u.decls)
+
+-- three parts of a list
+pub three_parts : (code : Code) (xs ys zs : List Place) (l0 l1 l2 l3 : Option Found) → l1 ≡ noted (found code xs) l0 → l2 ≡ noted (found code ys) l1 → l3 ≡ noted (found code zs) l2
+    → l3 ≡ noted (found code (xs ++ (ys ++ zs))) l0
+three_parts code xs ys zs l0 l1 l2 l3 e h k =
+    k ∙ ap (noted (found code zs)) h ∙ sym (noted_places code ys zs l1) ∙ ap (noted (found code (ys ++ zs))) e ∙ sym (noted_places code xs (ys ++ zs) l0)
+
+-- what a function, or a unit that it reaches, writes
+pub function_writes_are : (f : File) (u : tree_unit.Unit) (write : Option At) → IsWrittenFrom f u write → (least : Option Found)
+    → noted (if is_some u.result then fault_of write else []) least ≡ noted (found E3A (function_writes (placed f) (bare_program (placed f)) (placed_unit u))) least
+function_writes_are f u write is least = go (is_some u.result)
+  where
+    go : (b : Bool) → noted (if b then fault_of write else []) least ≡ noted (found E3A (if b then flat_map (module_writes (bare_program (placed f))) (reached_from (placed f) u.name) else [])) least
+    go true = is.same least
+    go false = refl

@@ -7,7 +7,6 @@ use Rattle.sound_programs.specs.Placed.{Subscripts, No_more, One, Section, first
 use Rattle.sound_programs.specs.Placing.{Before, placed_expr, placed_subs}
 use Rattle.sound_programs.specs.Walks as walks
 use Rattle.argument_faults.specs.declared.actuals.Actual.{Actual}
-use Rattle.argument_faults.specs.declared.sites.Site.{Site}
 
 abbrev pub placed_actual : Actual → walks.Actual
 placed_actual a = record {
@@ -28,9 +27,3 @@ first_actual dummy (Section lower upper at rest) = walks.actual None at dummy �
 -- the actual that an argument is, whatever stands behind it
 abbrev pub actual_alone : Option plain.Decl → Before → List walks.Actual
 actual_alone dummy arg = first_actual dummy (arg No_more)
-
-abbrev pub placed_site : Site → walks.Site
-placed_site s = record { name = walks.named s.name.now s.at; args = placed_subs s.args.now }
-
-abbrev pub placed_sites : List Site → List walks.Site
-placed_sites list = map placed_site list

@@ -33,9 +33,9 @@ abbrev pub some_mark : List (List Bool) → List ℕ → ℕ → Bool
 some_mark rows numbers n = list_any (λ k. slice_index_or (slice_index_or rows k []) n false) numbers
 
 -- all these rows are as long
-pub record AreLong (rows : List (List Bool)) (numbers : List ℕ) (long : ℕ) : Type 0 where
+pub record AreLong (rows : List (List Bool)) (numbers : List ℕ) (count : ℕ) : Type 0 where
   pub there : (k : ℕ) → stands k numbers ≡ true → k < length rows
-  pub long : (k : ℕ) → stands k numbers ≡ true → length (slice_index_or rows k []) ≡ long
+  pub long : (k : ℕ) → stands k numbers ≡ true → length (slice_index_or rows k []) ≡ count
 
 -- the marks of the first list and of the rows of these numbers
 pub record AreMerged (own : List Bool) (rows : List (List Bool)) (numbers : List ℕ) (marks : List Bool) : Type 0 where

@@ -11,6 +11,7 @@ use Rattle.sound_programs.specs.Placed.{bare_program}
 use Rattle.sound_programs.specs.Placing.{placed, placed_unit}
 use Rattle.fort_names.specs.declared.least.At.{At}
 use Rattle.fort_names.specs.FoundAt.{found_of}
+use Rattle.fort_names.specs.Leasts.{noted}
 use Rattle.argument_faults.specs.declared.reached.Reached.{Reached}
 use Rattle.argument_faults.specs.Marking.{is_marked}
 use Rattle.argument_faults.specs.ModuleNames.{HasSame}
@@ -53,6 +54,12 @@ faults_at writes numbers = flat_map (λ k. fault_of (slice_index_or writes k Non
 -- these numbers have writes
 pub record AreThere (writes : List (Option At)) (numbers : List ℕ) : Type 0 where
   pub there : (k : ℕ) → stands k numbers ≡ true → k < length writes
+
+-- the first of the unit's own write and of those of the units of these numbers
+pub record IsFirstFrom (f : File) (n : ℕ) (writes : List (Option At)) (numbers : List ℕ) (first : Option At) : Type 0 where
+  pub own : Option At
+  pub writes_own : (u : tree_unit.Unit) → slice_get f.units n ≡ Some u → IsFirstWrite (module_writes (bare_program (placed f)) (placed_unit u)) own
+  pub first_of : option_map found_of first ≡ noted (faults_at writes numbers) (noted (fault_of own) None)
 
 -- the table has the unit of this number
 pub record HasUnit (r : Reached) (n : ℕ) : Type 0 where

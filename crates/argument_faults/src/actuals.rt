@@ -3,14 +3,19 @@ ghost use Rattle.std.specs.Prelude.{◌≡◌, [], ◌∷◌, ◌++◌, map, IfO
 ghost use Rattle.std.specs.Option.{option_copied, option_map};
 ghost use Rattle.claw_meaning.specs.Plain.{plain_decl, plain_unit};
 ghost use Rattle.claw_meaning.specs.Scope.{decl_named};
-ghost use Rattle.sound_programs.specs.Placed.{first as first_place};
 ghost use Rattle.sound_programs.specs.Placing.{placed_expr, placed_sub, placed_subs};
 ghost use Rattle.sound_programs.specs.Scopes.{is_written_intent};
 ghost use Rattle.sound_programs.specs.Walks as walks;
+ghost use Rattle.fort_names.specs.Sights.{means};
+ghost use Rattle.fort_kinds.specs.Sites.{placed_sites};
+ghost use Rattle.unit_steps.specs.Behind.{placed_step};
 ghost use Rattle.argument_faults.specs.Actuals.{actual_alone, placed_actual, placed_actuals};
 
+use fort_kinds::{Site, first, sites_of};
+use fort_names::Sight;
 use fort_tree::{Decl, Expr, Intent, Name, Named, NoMemory, Place, Sub, Unit};
 use std::alloc::Global;
+use unit_steps::{Step, parts_read};
 
 /// An actual argument and its dummy's declaration, by position. A range by itself is no expression.
 #[derive(Clone, Copy, Drop)]
@@ -21,19 +26,20 @@ pub struct Actual<'a> {
     pub dummy: Option<&'a Decl>,
 }
 
-/// The place of the first token.
-pub fn first(expr: &Expr) -> Place
-    ensures { result ≡ first_place (placed_expr expr.now) }
+/// The references to units in a step: its CALL, and those to functions.
+///
+/// # Errors
+/// `NoMemory` only where memory was refused.
+pub fn sites_in<'a>(
+    alloc: Global,
+    sight: &Sight<'_>,
+    step: Step<'a>,
+) -> Result<Vec<Site<'a>>, NoMemory>
+    ensures { IfOk result (λ list. placed_sites list.items ≡ walks.sites (means sight.now) (placed_step step.entry)) }
 {
-    match expr {
-        Expr::Number(_, _, at)
-        | Expr::Truth(_, at)
-        | Expr::Ref(_, None, at)
-        | Expr::Ref(_, Some(_), at)
-        | Expr::One(_, _, at)
-        | Expr::Paren(_, at) => *at,
-        Expr::Two(_, left, _) => first(left.get()),
-    }
+    let parts = parts_read(alloc, step)?;
+    let list = sites_of(alloc, sight, step, parts.as_slice())?;
+    Ok(list)
 }
 
 /// Whether it is OUT or INOUT.

@@ -14,7 +14,7 @@ ghost use Rattle.argument_faults.specs.Reaching.{AreWrittenFrom, IsReached, faul
 use crate::reached::{Reached, reached_by};
 use crate::unit_faults::note_unit_aliases;
 use crate::writes::{note_function_dummies, note_unit_writes};
-use crate::writes_reached::{note_write, writes_reached};
+use crate::writes_reached::{note_write, write_at, writes_reached};
 use call_graph::Graph;
 use fort_names::{At, Least, Symbols};
 use fort_tree::{File, NoMemory, Unit};
@@ -109,7 +109,7 @@ fn note_writes_of(
     let sight = symbols.sight_of_unit(file, number);
     note_unit_writes(alloc, least, &sight, unit)?;
     note_function_dummies(least, unit);
-    note_function_write(least, unit, writes[number]);
+    note_function_write(least, unit, write_at(writes, number));
     Ok(())
 }
 

@@ -9,7 +9,6 @@ mod module_names;
 mod module_writes;
 mod reached;
 mod shared;
-mod sites;
 #[cfg(test)]
 mod tests;
 mod unit_faults;

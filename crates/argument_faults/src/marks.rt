@@ -1,5 +1,5 @@
 //! Marks of module variables.
-ghost use Rattle.std.specs.Prelude.{◌≡◌, ◌<◌, false, length, replicate, slice_set, IfOk};
+ghost use Rattle.std.specs.Prelude.{◌≡◌, ◌<◌, [], false, length, replicate, slice_index_or, IfOk};
 ghost use Rattle.std.specs.Option.{ForSome};
 ghost use Rattle.argument_faults.specs.Marking.{with_mark, some_mark, AreLong, AreMarks, AreMerged, HasAll};
 ghost use Rattle.argument_faults.specs.ModuleNames.{pairs};
@@ -45,6 +45,14 @@ pub fn marks_of(
     Ok(marks)
 }
 
+fn mark_in(rows: &[Seq<bool>], number: usize, place: usize) -> bool
+    requires number { number < length rows.now }
+    requires place { place < length (slice_index_or rows.now number []) }
+    ensures { result ≡ slice_index_or (slice_index_or rows.now number []) place false }
+{
+    rows[number].items()[place]
+}
+
 /// Whether one of the rows of these numbers has a mark at the place.
 fn has_mark(rows: &[Seq<bool>], numbers: &[usize], place: usize, long: usize) -> bool
     requires rows { AreLong rows.now numbers.now long }
@@ -52,7 +60,7 @@ fn has_mark(rows: &[Seq<bool>], numbers: &[usize], place: usize, long: usize) ->
     ensures { result ≡ some_mark rows.now numbers.now place }
 {
     for number in numbers {
-        if rows[*number].items()[place] {
+        if mark_in(rows, *number, place) {
             return true;
         }
     }

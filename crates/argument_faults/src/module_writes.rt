@@ -9,11 +9,12 @@ ghost use Rattle.fort_names.specs.FoundAt.{found_of};
 ghost use Rattle.fort_names.specs.Leasts.{noted};
 ghost use Rattle.fort_names.specs.Sights.{means};
 ghost use Rattle.unit_steps.specs.Behind.{expr_behind, placed_step, placed_steps};
-ghost use Rattle.argument_faults.specs.Actuals.{placed_actual, placed_actuals, placed_site, placed_sites};
+ghost use Rattle.fort_kinds.specs.Sites.{placed_site, placed_sites};
+ghost use Rattle.argument_faults.specs.Actuals.{placed_actual, placed_actuals};
 ghost use Rattle.argument_faults.specs.ModuleWrites.{is_of_module as of_module_test, named_among, named_on_left, named_by_actual, named_at, named_in_step, module_writes_in, IsFirstWrite};
 
-use crate::actuals::{Actual, actuals_of, is_written};
-use crate::sites::{Site, sites_of};
+use crate::actuals::{Actual, actuals_of, is_written, sites_in};
+use fort_kinds::Site;
 use fort_names::{At, Least, Sight};
 use fort_tree::{Code, Expr, Name, Named, NoMemory, Unit};
 use std::alloc::Global;
@@ -110,7 +111,7 @@ fn note_step(
     ensures { OnOk result (least.new ≡ noted (found E3A (named_in_step (means sight.now) unit.now (placed_step step.entry))) least.old) }
 {
     note_left(least, sight, unit, step.left());
-    let list = sites_of(alloc, sight, step)?;
+    let list = sites_in(alloc, sight, step)?;
     note_sites(alloc, least, sight, unit, list.as_slice())?;
     Ok(())
 }

@@ -1,12 +1,12 @@
 //! What units, and those that they reach by references, name.
-ghost use Rattle.std.specs.Prelude.{◌≡◌, [], Some, length, replicate, slice_get, IfOk};
+ghost use Rattle.std.specs.Prelude.{◌≡◌, ◌<◌, [], Some, length, replicate, slice_get, slice_index_or, IfOk};
 ghost use Rattle.fort_names.specs.Scoping.{AreSymbolsOf};
 ghost use Rattle.sound_programs.specs.ArgumentFaults.{module_variables_of};
 ghost use Rattle.sound_programs.specs.Faults.{faults_of_names};
 ghost use Rattle.sound_programs.specs.Placed.{bare_program};
 ghost use Rattle.sound_programs.specs.Placing.{placed, placed_unit};
 ghost use Rattle.call_graph.specs.CallGraphs.{IsCallGraph};
-ghost use Rattle.argument_faults.specs.Marking.{AreLong, HasAll, HasAllRows, IsMarkedFrom};
+ghost use Rattle.argument_faults.specs.Marking.{AreLong, HasAllRows, IsMarkedFrom};
 ghost use Rattle.argument_faults.specs.ModuleNames.{HasSame, pairs, rows_of};
 ghost use Rattle.argument_faults.specs.Reaching.{AreNamed, AreNamedFrom, IsReached};
 
@@ -73,15 +73,17 @@ fn no_rows(alloc: Global, count: usize) -> Result<Vec<Seq<bool>>, NoMemory>
 fn marks_from(
     alloc: Global,
     variables: &VariableSet,
-    list: &[ModuleVariable],
+    named: &[Seq<ModuleVariable>],
+    unit: usize,
     rows: &[Seq<bool>],
     callees: &[usize],
 ) -> Result<Seq<bool>, NoMemory>
-    requires list { HasAll variables.now (pairs list.now) }
+    requires unit { unit < length named.now }
+    requires named { HasAllRows variables.now (rows_of named.now) }
     requires rows { AreLong rows.now callees.now (length variables.now) }
-    ensures { IfOk result (IsMarkedFrom variables.now (pairs list.now) rows.now callees.now) }
+    ensures { IfOk result (IsMarkedFrom variables.now (slice_index_or (rows_of named.now) unit []) rows.now callees.now) }
 {
-    let own = marks_of(alloc, variables, list)?;
+    let own = marks_of(alloc, variables, named[unit].items())?;
     let marks = merged(alloc, own.as_slice(), rows, callees)?;
     Ok(Seq::from_vec(marks))
 }
@@ -93,18 +95,18 @@ fn all_marks(
     file: &File,
     graph: &Graph,
     variables: &VariableSet,
-    own: &[Seq<ModuleVariable>],
+    named: &[Seq<ModuleVariable>],
 ) -> Result<Vec<Seq<bool>>, NoMemory>
     requires names { faults_of_names (placed file.now) ≡ [] }
     requires graph { IsCallGraph file.now graph.now }
-    requires own { AreNamed file.now (rows_of own.now) }
-    requires all { HasAllRows variables.now (rows_of own.now) }
+    requires named { AreNamed file.now (rows_of named.now) }
+    requires all { HasAllRows variables.now (rows_of named.now) }
     ensures { IfOk result (λ rows. AreNamedFrom file.now variables.now rows.items) }
 {
     let mut rows = no_rows(alloc, file.units.len())?;
     for unit in graph.order() {
-        let list = own[*unit].items();
-        let marks = marks_from(alloc, variables, list, rows.as_slice(), graph.callees(*unit))?;
+        let callees = graph.callees(*unit);
+        let marks = marks_from(alloc, variables, named, *unit, rows.as_slice(), callees)?;
         rows[*unit] = marks;
     }
     Ok(rows)
@@ -126,9 +128,9 @@ pub fn reached_by(
     requires graph { IsCallGraph file.now graph.now }
     ensures { IfOk result (IsReached file.now) }
 {
-    let own = all_variables(alloc, file, symbols)?;
-    let variables = variables_in(alloc, own.as_slice())?;
-    let marks = all_marks(alloc, file, graph, &variables, own.as_slice())?;
+    let named = all_variables(alloc, file, symbols)?;
+    let variables = variables_in(alloc, named.as_slice())?;
+    let marks = all_marks(alloc, file, graph, &variables, named.as_slice())?;
     Ok(Reached { variables, marks })
 }
 

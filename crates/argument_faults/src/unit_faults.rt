@@ -7,15 +7,16 @@ ghost use Rattle.sound_programs.specs.Scopes.{unit_of};
 ghost use Rattle.fort_names.specs.Leasts.{noted};
 ghost use Rattle.fort_names.specs.Sights.{means, file_of};
 ghost use Rattle.unit_steps.specs.Behind.{placed_step, placed_steps};
-ghost use Rattle.argument_faults.specs.Actuals.{placed_actuals, placed_site, placed_sites};
+ghost use Rattle.fort_kinds.specs.Sites.{placed_site, placed_sites};
+ghost use Rattle.argument_faults.specs.Actuals.{placed_actuals};
 ghost use Rattle.argument_faults.specs.InUnits.{alias_in, alias_in_step, alias_in_unit, behind_in};
 ghost use Rattle.argument_faults.specs.Reaching.{IsReached};
 
-use crate::actuals::{Actual, actuals_of};
+use crate::actuals::{Actual, actuals_of, sites_in};
 use crate::behind::note_behind;
 use crate::reached::Reached;
 use crate::shared::note_shared_actuals;
-use crate::sites::{Site, sites_of};
+use fort_kinds::Site;
 use fort_names::{Least, Meaning, Sight};
 use fort_tree::{Name, NoMemory, Unit};
 use std::alloc::Global;
@@ -89,7 +90,7 @@ fn note_step(
     requires { IsReached (file_of sight.now) reached.now }
     ensures { OnOk result (least.new ≡ noted (found E38 (alias_in_step (placed (file_of sight.now)) (means sight.now) unit.now (placed_step step.entry))) least.old) }
 {
-    let list = sites_of(alloc, sight, step)?;
+    let list = sites_in(alloc, sight, step)?;
     note_sites(alloc, least, sight, unit, reached, list.as_slice())?;
     Ok(())
 }

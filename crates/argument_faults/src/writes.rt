@@ -11,11 +11,12 @@ ghost use Rattle.fort_names.specs.Leasts.{noted, places_at};
 ghost use Rattle.fort_names.specs.Meanings.{meaning_of};
 ghost use Rattle.fort_names.specs.Sights.{means};
 ghost use Rattle.unit_steps.specs.Behind.{expr_behind, placed_step, placed_steps};
-ghost use Rattle.argument_faults.specs.Actuals.{placed_actual, placed_actuals, placed_site, placed_sites};
+ghost use Rattle.fort_kinds.specs.Sites.{placed_site, placed_sites};
+ghost use Rattle.argument_faults.specs.Actuals.{placed_actual, placed_actuals};
 ghost use Rattle.argument_faults.specs.Written.{fixed_among, fixed_on_left, unwritable_place, passed_place, passed_at, is_written_dummy as written_dummy_test};
 
-use crate::actuals::{Actual, actuals_of, first, is_written, is_written_as};
-use crate::sites::{Site, sites_of};
+use crate::actuals::{Actual, actuals_of, is_written, is_written_as, sites_in};
+use fort_kinds::{Site, first};
 use fort_names::{Least, Meaning, Sight, is_named};
 use fort_tree::{ByName, Code, Decl, Expr, Intent, Intrinsic, Name, Named, NoMemory, Unit};
 use std::alloc::Global;
@@ -155,7 +156,7 @@ fn note_passes(
 ) -> Result<(), NoMemory>
     ensures { OnOk result (least.new ≡ noted (found E3A (faults.passes_fixed (means sight.now) (placed_step step.entry))) least.old) }
 {
-    let list = sites_of(alloc, sight, step)?;
+    let list = sites_in(alloc, sight, step)?;
     note_sites(alloc, least, sight, list.as_slice())?;
     Ok(())
 }

@@ -1,5 +1,5 @@
 //! Where units, and those that they reach by references, write module variables.
-ghost use Rattle.std.specs.Prelude.{◌≡◌, [], None, Some, replicate, slice_get, IfOk};
+ghost use Rattle.std.specs.Prelude.{◌≡◌, ◌<◌, [], None, Some, length, replicate, slice_get, slice_index_or, IfOk};
 ghost use Rattle.std.specs.Option.{option_map};
 ghost use Rattle.sound_programs.specs.ArgumentFaults.{module_writes};
 ghost use Rattle.sound_programs.specs.Faults.{faults_of_names};
@@ -10,7 +10,7 @@ ghost use Rattle.fort_names.specs.Leasts.{noted};
 ghost use Rattle.fort_names.specs.Scoping.{AreSymbolsOf};
 ghost use Rattle.call_graph.specs.CallGraphs.{IsCallGraph};
 ghost use Rattle.argument_faults.specs.ModuleWrites.{IsFirstWrite};
-ghost use Rattle.argument_faults.specs.Reaching.{AreThere, AreWrittenFrom, fault_of, faults_at};
+ghost use Rattle.argument_faults.specs.Reaching.{AreThere, AreWrittenFrom, IsFirstFrom, fault_of, faults_at};
 
 use crate::module_writes::first_module_write;
 use call_graph::Graph;
@@ -45,13 +45,21 @@ pub fn note_write(least: &mut Least, write: Option<At>)
     }
 }
 
+/// The write of the unit of the number.
+pub fn write_at(writes: &[Option<At>], number: usize) -> Option<At>
+    requires { number < length writes.now }
+    ensures { result ≡ slice_index_or writes.now number None }
+{
+    writes[number]
+}
+
 /// Notes the writes of the units of these numbers.
 fn note_writes_at(least: &mut Least, writes: &[Option<At>], numbers: &[usize])
     requires { AreThere writes.now numbers.now }
     ensures { least.new ≡ noted (faults_at writes.now numbers.now) least.old }
 {
     for number in numbers {
-        note_write(least, writes[*number]);
+        note_write(least, write_at(writes, *number));
     }
 }
 
@@ -64,6 +72,24 @@ fn first_of(own: Option<At>, writes: &[Option<At>], callees: &[usize]) -> Option
     note_write(&mut least, own);
     note_writes_at(&mut least, writes, callees);
     least.first()
+}
+
+/// The first write of the unit of the number, from those of the units to which it refers.
+fn write_from(
+    alloc: Global,
+    file: &File,
+    symbols: &Symbols,
+    number: usize,
+    writes: &[Option<At>],
+    callees: &[usize],
+) -> Result<Option<At>, NoMemory>
+    requires symbols { AreSymbolsOf file.now symbols.now }
+    requires number { number < length file.now.units }
+    requires there { AreThere writes.now callees.now }
+    ensures { IfOk result (IsFirstFrom file.now number writes.now callees.now) }
+{
+    let own = write_of(alloc, file, symbols, number, &file.units.items()[number])?;
+    Ok(first_of(own, writes, callees))
 }
 
 fn no_writes(alloc: Global, count: usize) -> Result<Vec<Option<At>>, NoMemory>
@@ -92,12 +118,11 @@ pub fn writes_reached(
     requires graph { IsCallGraph file.now graph.now }
     ensures { IfOk result (λ writes. AreWrittenFrom file.now writes.items) }
 {
-    let units = file.units.items();
-    let mut writes = no_writes(alloc, units.len())?;
-    for number in graph.order() {
-        let own = write_of(alloc, file, symbols, *number, &units[*number])?;
-        let first = first_of(own, writes.as_slice(), graph.callees(*number));
-        writes[*number] = first;
+    let mut writes = no_writes(alloc, file.units.len())?;
+    for unit in graph.order() {
+        let callees = graph.callees(*unit);
+        let first = write_from(alloc, file, symbols, *unit, writes.as_slice(), callees)?;
+        writes[*unit] = first;
     }
     Ok(writes)
 }

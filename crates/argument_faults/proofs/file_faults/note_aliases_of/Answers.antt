@@ -6,13 +6,13 @@ use Rattle.sound_programs.specs.Faults.{found}
 use Rattle.sound_programs.specs.Placing.{placed, placed_unit}
 use Rattle.fort_names.specs.Leasts.{noted}
 use Rattle.argument_faults.specs.InUnits.{alias_in_unit}
-use Rattle.argument_faults.specs.Reaching.{IsReach}
+use Rattle.argument_faults.specs.Reaching.{IsReached}
 use Rattle.argument_faults.proofs.AliasesAre.{aliases_are}
 use Rattle.argument_faults.proofs.file_faults.note_aliases_of.Goals as goal
 
 -- src/file_faults.rt
 pub note_unit_aliases-requires : goal.note_unit_aliases-requires
-note_unit_aliases-requires c = subst (λ (f : File). IsReach f c.args.reach.now) (sym c.sight_of_unit-sight.ensures.file) c.requires.reach
+note_unit_aliases-requires c = subst (λ (f : File). IsReached f c.args.reached.now) (sym c.sight_of_unit-sight.ensures.file) c.requires.reached
 
 -- src/file_faults.rt
 pub returns : goal.returns

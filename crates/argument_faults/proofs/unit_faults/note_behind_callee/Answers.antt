@@ -1,4 +1,4 @@
-use Rattle.std.proofs.Common.{length, sym, ap, ◌∙◌}
+use Rattle.std.proofs.Common.{ap, ◌∙◌}
 use Rattle.fort_tree.specs.declared.fault.Code.TheVariants.{E38}
 use Rattle.claw_meaning.specs.Scope.{Entity}
 use Rattle.sound_programs.specs.Faults.{found}
@@ -7,19 +7,13 @@ use Rattle.sound_programs.specs.Scopes.{unit_of}
 use Rattle.fort_names.specs.Leasts.{noted}
 use Rattle.fort_names.specs.Sights.{means, file_of}
 use Rattle.argument_faults.specs.Actuals.{placed_actuals}
-use Rattle.argument_faults.specs.Behind.{behind_actuals, rows_of}
 use Rattle.argument_faults.specs.InUnits.{behind_in}
-use Rattle.argument_faults.proofs.InReach.{within_seen, as_variables, behind_callee}
+use Rattle.argument_faults.proofs.BehindAre.{has_unit, behind_callee}
 use Rattle.argument_faults.proofs.unit_faults.note_behind_callee.Goals as goal
 
 -- src/unit_faults.rt
-pub seen_from-seen-requires : goal.seen_from-seen-requires
-seen_from-seen-requires c = within_seen (file_of c.args.sight.now) c.args.reach.now c.requires c.in-Unit.number _ c.in-Unit.ensures.numbered
-
--- src/unit_faults.rt
 pub note_behind-requires : goal.note_behind-requires
-note_behind-requires c =
-    as_variables (file_of c.args.sight.now) c.args.reach.now c.requires c.in-Unit.number _ c.in-Unit.ensures.numbered c.seen_from-seen.result.now c.seen_from-seen.ensures ∙ ap length (sym c.as_slice.ensures.value)
+note_behind-requires c = has_unit (file_of c.args.sight.now) c.args.reached.now c.requires c.in-Unit.number _ c.in-Unit.ensures.numbered
 
 -- src/unit_faults.rt
 pub returns-in-Unit : goal.returns-in-Unit
@@ -29,7 +23,5 @@ returns-in-Unit c =
     let list = placed_actuals c.args.list.now in
     let least = c.args.least.now in
     c.note_behind.ensures
-    ∙ (λ i. noted (found E38 (behind_actuals entity unit c.seen_from-seen.result.now (rows_of (c.as_slice.ensures.value i)) list)) least)
-    ∙ ap (λ l. noted (found E38 l) least)
-    (behind_callee (file_of c.args.sight.now) c.args.reach.now c.requires c.in-Unit.number _ c.in-Unit.ensures.numbered c.seen_from-seen.result.now c.seen_from-seen.ensures entity unit list)
+    ∙ ap (λ l. noted (found E38 l) least) (behind_callee (file_of c.args.sight.now) c.args.reached.now c.requires c.in-Unit.number _ c.in-Unit.ensures.numbered entity unit list)
     ∙ ap (λ (m : Entity). noted (found E38 (behind_in (placed (file_of c.args.sight.now)) entity unit list (unit_of m))) least) c.in-Unit.ensures.is

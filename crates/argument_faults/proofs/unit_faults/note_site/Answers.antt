@@ -8,7 +8,8 @@ use Rattle.sound_programs.specs.Walks as walks
 use Rattle.fort_names.specs.Leasts.{noted}
 use Rattle.fort_names.specs.Sights.{means, file_of}
 use Rattle.fort_names.proofs.FirstOf.{noted_places}
-use Rattle.argument_faults.specs.Actuals.{placed_actuals, placed_site}
+use Rattle.fort_kinds.specs.Sites.{placed_site}
+use Rattle.argument_faults.specs.Actuals.{placed_actuals}
 use Rattle.argument_faults.specs.InUnits.{behind_in}
 use Rattle.argument_faults.proofs.unit_faults.note_site.Goals as goal
 

@@ -3,7 +3,7 @@ use Rattle.std.specs.Prelude.{flat_map}
 use Rattle.fort_tree.specs.declared.fault.Code.TheVariants.{E38}
 use Rattle.sound_programs.specs.Placing.{placed}
 use Rattle.fort_names.specs.Sights.{means, file_of}
-use Rattle.argument_faults.specs.Actuals.{placed_site, placed_sites}
+use Rattle.fort_kinds.specs.Sites.{placed_site, placed_sites}
 use Rattle.argument_faults.specs.InUnits.{alias_in}
 use Rattle.fort_names.proofs.FirstOf.{next_places}
 use Rattle.argument_faults.proofs.unit_faults.note_sites.Goals as goal

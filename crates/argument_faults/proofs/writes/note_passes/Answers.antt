@@ -5,7 +5,7 @@ use Rattle.sound_programs.specs.Faults.{found}
 use Rattle.fort_names.specs.Leasts.{noted}
 use Rattle.fort_names.specs.Sights.{means}
 use Rattle.unit_steps.specs.Behind.{placed_step}
-use Rattle.argument_faults.specs.Actuals.{placed_sites}
+use Rattle.fort_kinds.specs.Sites.{placed_sites}
 use Rattle.argument_faults.specs.Written.{passed_at}
 use Rattle.argument_faults.proofs.WritesAre.{passed_are}
 use Rattle.argument_faults.proofs.writes.note_passes.Goals as goal

@@ -2,7 +2,7 @@ use Rattle.std.proofs.Common.{◌<◌, length, arith, refl, ◌∙◌}
 use Rattle.fort_tree.specs.declared.fault.Code.TheVariants.{E3A}
 use Rattle.fort_names.specs.Sights.{means}
 use Rattle.std.specs.Prelude.{flat_map}
-use Rattle.argument_faults.specs.Actuals.{placed_site, placed_sites}
+use Rattle.fort_kinds.specs.Sites.{placed_site, placed_sites}
 use Rattle.argument_faults.specs.Written.{passed_at}
 use Rattle.fort_names.proofs.FirstOf.{next_places}
 use Rattle.argument_faults.proofs.writes.note_sites.Goals as goal
