@@ -2,13 +2,12 @@
 use Rattle.std.proofs.Common.{◌≡◌, List, [], ◌∷◌, ◌++◌, Option, Some, None, refl, sym, ap, ◌∙◌}
 use Rattle.std.specs.Prelude.{flat_map}
 use Rattle.std.proofs.lemmas.Grind.{flat_map-append}
-use Rattle.fort_tree.specs.declared.place.Place.{Place}
 use Rattle.claw_meaning.specs.Syntax as plain
 use Rattle.sound_programs.specs.ArgumentFaults.{alias_at_site, behind_site, shared_actuals}
 use Rattle.sound_programs.specs.Placed.{Program, Unit, bare_program}
 use Rattle.sound_programs.specs.Scopes.{Of_unit, entity_in, unit_of}
 use Rattle.sound_programs.specs.Walks.{Stands, Site, actuals, sites, steps_of}
-use Rattle.argument_faults.specs.InUnits.{alias_in, alias_in_step, alias_in_unit, aliases_of, behind_in}
+use Rattle.argument_faults.specs.InUnits.{alias_in, alias_in_unit, aliases_of, behind_in}
 
 flat_flat : {A B D : Type 0} (g : B → List D) (h : A → List B) (xs : List A) → flat_map (λ x. flat_map g (h x)) xs ≡ flat_map g (flat_map h xs)
 flat_flat g h [] = refl

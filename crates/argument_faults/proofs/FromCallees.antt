@@ -13,7 +13,7 @@ use Rattle.numbered_graph.specs.Graphs.{row, stands}
 use Rattle.numbered_graph.proofs.Times.{itself}
 use Rattle.sound_programs.specs.ArgumentFaults.{is_named_by, module_variables_of, module_writes, reached_from, same_pair}
 use Rattle.sound_programs.specs.Faults.{Found, found}
-use Rattle.sound_programs.specs.Placed.{Unit, bare_program}
+use Rattle.sound_programs.specs.Placed.{bare_program}
 use Rattle.sound_programs.specs.Placing.{placed, placed_unit}
 use Rattle.fort_names.specs.declared.least.At.{At}
 use Rattle.fort_names.specs.FoundAt.{found_of}

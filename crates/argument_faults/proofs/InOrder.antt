@@ -12,7 +12,7 @@ use Rattle.fort_tree.specs.declared.unit.Unit as tree_unit
 use Rattle.claw_meaning.specs.Syntax.{Text}
 use Rattle.numbered_graph.specs.Graphs.{Rows, row, stands, times, is_behind}
 use Rattle.numbered_graph.proofs.Deeper.{stands_other}
-use Rattle.numbered_graph.proofs.Times.{same_number, itself, stands_if, times_if, stands_append, stands_last}
+use Rattle.numbered_graph.proofs.Times.{same_number, itself, stands_if, times_if}
 use Rattle.numbered_graph.proofs.Turned.{stands_at}
 use Rattle.numbered_graph.proofs.Ways.{all_stand}
 use Rattle.sound_programs.specs.ArgumentFaults.{reached_from}
@@ -21,7 +21,7 @@ use Rattle.sound_programs.specs.Placed.{Unit, bare_program}
 use Rattle.sound_programs.specs.Placing.{placed, placed_unit}
 use Rattle.fort_names.specs.NameLists.{with_name}
 use Rattle.fort_names.proofs.Places.{any_map, get_map}
-use Rattle.call_graph.specs.CallGraphs.{CallGraph, names_after, distinct_names, IsCallGraph}
+use Rattle.call_graph.specs.CallGraphs.{CallGraph, names_after, IsCallGraph}
 use Rattle.call_graph.specs.Referring.{unit_names, name_at, NamesDiffer}
 use Rattle.argument_faults.proofs.Inserting.{any_with}
 use Rattle.argument_faults.proofs.Onwards.{IsAlone, reached_onwards}

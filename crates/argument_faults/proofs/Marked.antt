@@ -1,5 +1,5 @@
 -- Marks of variables, one after the other, and marks that are merged.
-use Rattle.std.proofs.Common.{◌≡◌, ◌≢◌, ℕ, zero, suc, ◌+◌, ◌<◌, Bool, true, false, ◌&&◌, ◌||◌, nat_eq, List, [], ◌∷◌, ◌++◌, length, take, get_or, set, replicate, Option, Some, None, is_some, refl, sym, ap, ◌∙◌, subst, arith, get_or-set_other, get_or-set_same, length-set, append-nil}
+use Rattle.std.proofs.Common.{◌≡◌, ◌≢◌, ℕ, zero, suc, ◌+◌, ◌<◌, Bool, true, false, ◌&&◌, ◌||◌, List, [], ◌∷◌, ◌++◌, length, take, get_or, set, replicate, Option, Some, None, is_some, refl, sym, ap, ◌∙◌, subst, arith, get_or-set_other, get_or-set_same, length-set}
 use Rattle.std.specs.Prelude.{position, slice_get, if◌then◌else◌}
 use Rattle.std.specs.List.{list_any}
 use Rattle.std.specs.Str.{bytes_eq}
@@ -7,11 +7,9 @@ use Rattle.std.proofs.lemmas.Bool.{false≢true, and_parts}
 use Rattle.std.proofs.lemmas.List.{map-append, take_more}
 use Rattle.std.proofs.lemmas.Slice.Eq.{bytes_eq-Decides}
 use Rattle.claw_meaning.specs.Syntax.{Text}
-use Rattle.numbered_graph.specs.Graphs.{stands}
-use Rattle.numbered_graph.proofs.Times.{same_number}
 use Rattle.sound_programs.specs.ArgumentFaults.{same_pair}
 use Rattle.fort_names.proofs.Places.{passing, some_position, any_append, any_map}
-use Rattle.argument_faults.specs.Marking.{mark_at, is_marked, with_mark, some_mark, AreMarks, HasAll, HasAllRows, AreMerged, IsMarkedFrom}
+use Rattle.argument_faults.specs.Marking.{mark_at, is_marked, with_mark, AreMarks, HasAll, HasAllRows, AreMerged, IsMarkedFrom}
 use Rattle.argument_faults.specs.declared.module_names.ModuleVariable.{ModuleVariable}
 use Rattle.argument_faults.specs.ModuleNames.{pair_of, pairs, rows_of, with_variable, with_variables, with_rows}
 
@@ -176,7 +174,7 @@ pub next_mark : (vs : List (Text × Text)) (items : List ModuleVariable) (i : �
     → new ≡ with_mark old (position (same_pair (pair_of w)) vs) → AreMarks vs (pairs (take (i + 1) items)) new
 next_mark vs items i w within is all old new are e =
     let longer : pairs (take (i + 1) items) ≡ pairs (take i items) ++ pair_of w ∷ [] =
-        ap pairs (take_more items i w within ∙ ap (λ x. take i items ++ x ∷ []) (sym is)) ∙ map-append pair_of (take i items) (w ∷ []) in
+    ap pairs (take_more items i w within ∙ ap (λ x. take i items ++ x ∷ []) (sym is)) ∙ map-append pair_of (take i items) (w ∷ []) in
     subst (λ l. AreMarks vs l new) (sym longer) (subst (AreMarks vs (pairs (take i items) ++ pair_of w ∷ [])) (sym e) (marked_with vs (pairs (take i items)) old (pair_of w) are (all.there (pair_of w) (among items i w within is))))
   where
     among : (items : List ModuleVariable) (i : ℕ) (w : ModuleVariable) → i < length items → w ≡ get_or items i w → list_any (same_pair (pair_of w)) (pairs items) ≡ true

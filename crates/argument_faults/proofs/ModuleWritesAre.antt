@@ -1,12 +1,11 @@
 -- The places where module variables are written, by what is written in a step.
 use Rattle.std.proofs.Common.{◌≡◌, Bool, true, false, cond, List, [], ◌∷◌, ◌++◌, map, Option, Some, None, refl, sym, ap, ◌∙◌}
-use Rattle.std.specs.Prelude.{flat_map, is_some, if◌then◌else◌}
+use Rattle.std.specs.Prelude.{flat_map, if◌then◌else◌}
 use Rattle.std.specs.List.{filter}
 use Rattle.std.specs.Option.{option_to_list}
 use Rattle.std.proofs.lemmas.Grind.{flat_map-append}
 use Rattle.std.proofs.lemmas.List.{map-append}
 use Rattle.std.proofs.lemmas.List.Elements.{filter-append}
-use Rattle.fort_tree.specs.declared.place.Place.{Place}
 use Rattle.fort_tree.specs.declared.stmt.Named.{Named}
 use Rattle.claw_meaning.specs.Scope.{Entity}
 use Rattle.claw_meaning.specs.Syntax.{Text}
@@ -14,7 +13,6 @@ use Rattle.sound_programs.specs.ArgumentFaults.{names_written}
 use Rattle.sound_programs.specs.NameFaults.{places_where}
 use Rattle.sound_programs.specs.Placed.{Expr, Numeral, Boolean, Name, Reference, Signed, Binary, Paren, Unit}
 use Rattle.sound_programs.specs.Places.{where_place}
-use Rattle.sound_programs.specs.Scopes.{module_variable}
 use Rattle.sound_programs.specs.Walks.{Step, Assigns, Calls, Tests, Chooses, Repeats, Stands, Site, Actual, actuals, is_written, left_of, name_in, named, sites, steps_of}
 use Rattle.argument_faults.specs.ModuleWrites.{is_of_module, named_among, named_on_left, named_by_actual, named_at, named_in_step, module_writes_in}
 

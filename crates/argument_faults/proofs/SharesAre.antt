@@ -5,11 +5,10 @@ use Rattle.std.specs.List.{filter, list_any}
 use Rattle.std.specs.Option.{option_and_then, option_to_list}
 use Rattle.std.specs.Str.{bytes_eq}
 use Rattle.std.proofs.lemmas.List.Folds.{flat_map-map}
-use Rattle.fort_tree.specs.declared.place.Place.{Place}
 use Rattle.fort_tree.specs.declared.stmt.Named.{Named}
 use Rattle.claw_meaning.specs.Scope.{Entity}
 use Rattle.claw_meaning.specs.Syntax.{Text}
-use Rattle.sound_programs.specs.ArgumentFaults.{variable_of, same_variable, share as placed_share, shared_actuals}
+use Rattle.sound_programs.specs.ArgumentFaults.{same_variable, share as placed_share, shared_actuals}
 use Rattle.sound_programs.specs.Placed.{Expr, Numeral, Boolean, Name, Reference, Signed, Binary, Paren}
 use Rattle.sound_programs.specs.Places.{where_place}
 use Rattle.sound_programs.specs.Scopes.{is_variable}

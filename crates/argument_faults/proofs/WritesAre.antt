@@ -1,5 +1,5 @@
 -- The places of writes in a unit itself.
-use Rattle.std.proofs.Common.{◌≡◌, ℕ, Bool, true, false, ◌&&◌, cond, List, [], ◌∷◌, ◌++◌, map, Option, Some, None, refl, sym, ap, ◌∙◌}
+use Rattle.std.proofs.Common.{◌≡◌, Bool, true, false, ◌&&◌, cond, List, [], ◌∷◌, ◌++◌, map, Option, Some, None, refl, sym, ap, ◌∙◌}
 use Rattle.std.specs.Prelude.{flat_map, is_some, not, if◌then◌else◌}
 use Rattle.std.specs.List.{filter}
 use Rattle.std.specs.Option.{option_to_list}
@@ -26,7 +26,7 @@ use Rattle.fort_names.specs.declared.least.At.{At}
 use Rattle.fort_names.specs.Leasts.{noted, places_at}
 use Rattle.fort_names.proofs.FirstOf.{noted_places}
 use Rattle.argument_faults.specs.Reaching.{IsWrittenFrom, fault_of}
-use Rattle.argument_faults.specs.Written.{fixed_among, fixed_on_left, unwritable_place, passed_place, passed_at, is_written_dummy}
+use Rattle.argument_faults.specs.Written.{fixed_on_left, unwritable_place, passed_place, passed_at, is_written_dummy}
 
 module _ (entity : Text → Entity) where
   abbrev fixed : Named → Bool

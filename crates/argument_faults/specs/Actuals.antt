@@ -4,7 +4,7 @@ use Rattle.std.specs.Option.{option_copied, option_map}
 use Rattle.claw_meaning.specs.Plain.{plain_decl}
 use Rattle.claw_meaning.specs.Syntax as plain
 use Rattle.sound_programs.specs.Placed.{Subscripts, No_more, One, Section, first}
-use Rattle.sound_programs.specs.Placing.{Before, placed_expr, placed_subs}
+use Rattle.sound_programs.specs.Placing.{Before, placed_expr}
 use Rattle.sound_programs.specs.Walks as walks
 use Rattle.argument_faults.specs.declared.actuals.Actual.{Actual}
 

@@ -1,5 +1,5 @@
 -- The faults of one unit, where names are these entities.
-use Rattle.std.specs.Prelude.{List, [], ◌++◌, flat_map, Option, Some, None, Bool, ◌&&◌, is_some, if◌then◌else◌}
+use Rattle.std.specs.Prelude.{List, [], ◌++◌, flat_map, Option, Some, None, ◌&&◌}
 use Rattle.std.specs.List.{list_any}
 use Rattle.std.specs.Option.{option_to_list}
 use Rattle.fort_tree.specs.declared.place.Place.{Place}

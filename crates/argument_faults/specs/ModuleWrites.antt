@@ -1,5 +1,5 @@
 -- Where module variables are written, name by name; and the first of these places.
-use Rattle.std.specs.Prelude.{◌≡◌, List, [], ◌∷◌, ◌++◌, map, flat_map, Option, Some, None, Bool, is_some, if◌then◌else◌}
+use Rattle.std.specs.Prelude.{◌≡◌, List, [], ◌∷◌, ◌++◌, flat_map, Option, Bool, is_some, if◌then◌else◌}
 use Rattle.std.specs.Option.{option_map, option_to_list}
 use Rattle.fort_tree.specs.declared.fault.Code.TheVariants.{E3A}
 use Rattle.fort_tree.specs.declared.place.Place.{Place}

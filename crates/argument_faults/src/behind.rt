@@ -85,6 +85,10 @@ pub fn note_behind(
     ensures { least.new ≡ noted (found E38 (behind_actuals (is_marked_for reached.now callee) (means sight.now) unit.now (placed_actuals actuals.now))) least.old }
 {
     for one in actuals {
-        least.note_if(is_behind(sight, unit, reached, callee, one), Code::E38, one.at);
+        least.note_if(
+            is_behind(sight, unit, reached, callee, one),
+            Code::E38,
+            one.at,
+        );
     }
 }

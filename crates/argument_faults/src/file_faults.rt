@@ -150,6 +150,13 @@ pub fn note_writes(
     ensures { OnOk result (least.new ≡ noted (found E3A (write_faults (placed file.now))) least.old) }
 {
     let writes = writes_reached(alloc, file, symbols, graph)?;
-    note_writes_in(alloc, least, file, symbols, writes.as_slice(), file.units.items())?;
+    note_writes_in(
+        alloc,
+        least,
+        file,
+        symbols,
+        writes.as_slice(),
+        file.units.items(),
+    )?;
     Ok(())
 }

@@ -71,11 +71,7 @@ fn insert_names(names: &[Named], into: &mut NameSet) -> Result<(), NoMemory>
     Ok(())
 }
 
-fn insert_steps(
-    alloc: Global,
-    steps: &[Step<'_>],
-    into: &mut NameSet,
-) -> Result<(), NoMemory>
+fn insert_steps(alloc: Global, steps: &[Step<'_>], into: &mut NameSet) -> Result<(), NoMemory>
     ensures { OnOk result (into.new ≡ inserted into.old (map (λ n. n.name) (flat_map names_in_step (placed_steps steps.now)))) }
 {
     for step in steps {

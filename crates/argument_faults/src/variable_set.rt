@@ -77,10 +77,7 @@ fn insert_all(into: &mut VariableSet, list: &[ModuleVariable]) -> Result<(), NoM
 ///
 /// # Errors
 /// `NoMemory` only where memory was refused.
-pub fn variables_in(
-    alloc: Global,
-    rows: &[Seq<ModuleVariable>],
-) -> Result<VariableSet, NoMemory>
+pub fn variables_in(alloc: Global, rows: &[Seq<ModuleVariable>]) -> Result<VariableSet, NoMemory>
     ensures { IfOk result (λ set. set ≡ with_rows [] (rows_of rows.now)) }
 {
     let mut set = VariableSet::new(alloc);

@@ -1,5 +1,4 @@
 use Rattle.std.proofs.Common.{sym, ap, subst, ◌∙◌}
-use Rattle.std.proofs.lemmas.Option.{slice_get_within}
 use Rattle.fort_tree.specs.declared.fault.Code.TheVariants.{E38}
 use Rattle.fort_tree.specs.declared.unit.File.{File}
 use Rattle.sound_programs.specs.Faults.{found}

@@ -1,4 +1,4 @@
-use Rattle.std.proofs.Common.{◌<◌, length, arith, get_or, []}
+use Rattle.std.proofs.Common.{arith}
 use Rattle.numbered_graph.proofs.Turned.{stands_at}
 use Rattle.argument_faults.proofs.marks.has_mark.Goals as goal
 

@@ -4,7 +4,7 @@ use Rattle.sound_programs.specs.Faults.{found}
 use Rattle.fort_names.specs.Leasts.{noted}
 use Rattle.fort_names.specs.Sights.{means}
 use Rattle.std.specs.Prelude.{flat_map}
-use Rattle.fort_kinds.specs.Sites.{placed_site, placed_sites}
+use Rattle.fort_kinds.specs.Sites.{placed_sites}
 use Rattle.argument_faults.specs.ModuleWrites.{named_at}
 use Rattle.argument_faults.proofs.module_writes.note_sites.Given as goal
 

@@ -4,7 +4,7 @@ use Rattle.sound_programs.specs.Faults.{found}
 use Rattle.fort_names.specs.Leasts.{noted}
 use Rattle.fort_names.specs.Sights.{means}
 use Rattle.std.specs.Prelude.{flat_map}
-use Rattle.unit_steps.specs.Behind.{placed_step, placed_steps}
+use Rattle.unit_steps.specs.Behind.{placed_steps}
 use Rattle.argument_faults.specs.ModuleWrites.{named_in_step}
 use Rattle.argument_faults.proofs.module_writes.note_steps.Given as goal
 

@@ -1,4 +1,4 @@
-use Rattle.std.proofs.Common.{◌≡◌, ◌<◌, ◌≤◌, [], length, get_or, arith, ap}
+use Rattle.std.proofs.Common.{◌≡◌, ◌<◌, ◌≤◌, length, get_or, arith, ap}
 use Rattle.fort_names.proofs.Places.{length_map}
 use Rattle.call_graph.proofs.Differing.{names_differ}
 use Rattle.argument_faults.specs.ModuleNames.{pairs, rows_of}

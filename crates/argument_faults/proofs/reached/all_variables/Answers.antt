@@ -2,7 +2,7 @@ use Rattle.std.proofs.Common.{◌≡◌, ◌+◌, ◌<◌, length, arith, refl, 
 use Rattle.std.specs.Prelude.{slice_get}
 use Rattle.std.proofs.lemmas.Option.{slice_get_read}
 use Rattle.argument_faults.specs.ModuleNames.{rows_of}
-use Rattle.argument_faults.proofs.NamedUpTo.{AreNamedUpTo, named_more, named_none, named_all}
+use Rattle.argument_faults.proofs.NamedUpTo.{AreNamedUpTo, named_more, named_all}
 use Rattle.argument_faults.proofs.reached.all_variables.Goals as goal
 
 -- src/reached.rt

@@ -1,4 +1,3 @@
-use Rattle.std.proofs.Common.{take}
 use Rattle.argument_faults.specs.ModuleNames.{rows_of}
 use Rattle.argument_faults.proofs.NamedUpTo.{AreNamedUpTo}
 use Rattle.argument_faults.proofs.reached.all_variables.Given as goal

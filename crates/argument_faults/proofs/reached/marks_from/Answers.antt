@@ -1,5 +1,5 @@
-use Rattle.std.proofs.Common.{◌≡◌, [], get_or, length, sym, ap, subst, ◌∙◌}
-use Rattle.argument_faults.specs.Marking.{AreMarks, AreMerged, HasAll, IsMarkedFrom}
+use Rattle.std.proofs.Common.{◌≡◌, [], get_or, sym, ap, subst, ◌∙◌}
+use Rattle.argument_faults.specs.Marking.{AreMarks, HasAll, IsMarkedFrom}
 use Rattle.argument_faults.specs.ModuleNames.{pairs, rows_of}
 use Rattle.argument_faults.proofs.Marked.{merged_marks, row_at}
 use Rattle.argument_faults.proofs.reached.marks_from.Goals as goal

@@ -1,5 +1,5 @@
-use Rattle.std.proofs.Common.{◌≡◌, [], sym, ap, subst, ◌∙◌}
-use Rattle.argument_faults.specs.Marking.{HasAll, HasAllRows}
+use Rattle.std.proofs.Common.{[], sym, ap, subst, ◌∙◌}
+use Rattle.argument_faults.specs.Marking.{HasAllRows}
 use Rattle.argument_faults.specs.ModuleNames.{rows_of, with_rows}
 use Rattle.argument_faults.proofs.Marked.{rows_there}
 use Rattle.argument_faults.proofs.reached.reached_by.Goals as goal

@@ -5,7 +5,7 @@ use Rattle.sound_programs.specs.Faults.{found}
 use Rattle.sound_programs.specs.Placing.{placed}
 use Rattle.fort_names.specs.Leasts.{noted}
 use Rattle.fort_names.specs.Sights.{means, file_of}
-use Rattle.fort_kinds.specs.Sites.{placed_site, placed_sites}
+use Rattle.fort_kinds.specs.Sites.{placed_sites}
 use Rattle.argument_faults.specs.InUnits.{alias_in}
 use Rattle.argument_faults.proofs.unit_faults.note_sites.Given as goal
 

@@ -5,7 +5,7 @@ use Rattle.sound_programs.specs.Faults.{found}
 use Rattle.sound_programs.specs.Placing.{placed}
 use Rattle.fort_names.specs.Leasts.{noted}
 use Rattle.fort_names.specs.Sights.{means, file_of}
-use Rattle.unit_steps.specs.Behind.{placed_step, placed_steps}
+use Rattle.unit_steps.specs.Behind.{placed_steps}
 use Rattle.argument_faults.specs.InUnits.{alias_in_step}
 use Rattle.argument_faults.proofs.unit_faults.note_steps.Given as goal
 

@@ -4,7 +4,7 @@ use Rattle.sound_programs.specs.Faults.{found}
 use Rattle.fort_names.specs.Leasts.{noted}
 use Rattle.fort_names.specs.Sights.{means}
 use Rattle.std.specs.Prelude.{flat_map}
-use Rattle.argument_faults.specs.Actuals.{placed_actual, placed_actuals}
+use Rattle.argument_faults.specs.Actuals.{placed_actuals}
 use Rattle.argument_faults.specs.Written.{passed_place}
 use Rattle.argument_faults.proofs.writes.note_all_passed.Given as goal
 

@@ -5,7 +5,7 @@ use Rattle.fort_names.specs.Leasts.{noted}
 use Rattle.fort_names.specs.Sights.{means}
 use Rattle.std.specs.Prelude.{flat_map}
 use Rattle.sound_programs.specs.ArgumentFaults.{writes_fixed}
-use Rattle.unit_steps.specs.Behind.{placed_step, placed_steps}
+use Rattle.unit_steps.specs.Behind.{placed_steps}
 use Rattle.argument_faults.proofs.writes.note_steps.Given as goal
 
 abbrev pub invariant-loop-step : goal.invariant-loop-step

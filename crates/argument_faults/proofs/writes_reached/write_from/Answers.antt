@@ -15,7 +15,7 @@ returns c =
     let f = c.args.file.now in
     let items = c.items.result.now in
     let here : slice_get f.units c.args.number ≡ Some c.index-items-number.result =
-      ap (λ l. slice_get l c.args.number) (sym c.items.ensures) ∙ slice_get_read items (length items) c.args.number c.index-items-number.result refl (omega (arith, c.requires.number, ap length c.items.ensures)) c.index-items-number.is in
+    ap (λ l. slice_get l c.args.number) (sym c.items.ensures) ∙ slice_get_read items (length items) c.args.number c.index-items-number.result refl (omega (arith, c.requires.number, ap length c.items.ensures)) c.index-items-number.is in
     record {
       own = c.in_ok-own.own;
       writes_own = λ u there. subst (λ (v : tree_unit.Unit). IsFirstWrite (module_writes (bare_program (placed f)) (placed_unit v)) c.in_ok-own.own) (one_unit c.index-items-number.result u (sym here ∙ there)) c.in_ok-own.ensures;

@@ -1,4 +1,4 @@
-use Rattle.std.proofs.Common.{sym, ap, ◌∙◌}
+use Rattle.std.proofs.Common.{ap, ◌∙◌}
 use Rattle.argument_faults.specs.ModuleNames.{pair_of, pairs, with_variable}
 use Rattle.argument_faults.proofs.Marked.{pairs_with}
 use Rattle.argument_faults.proofs.variable_set.VariableSet.insert.Goals as goal
