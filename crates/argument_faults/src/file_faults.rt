@@ -59,8 +59,8 @@ fn note_aliases_in(
     Ok(())
 }
 
-/// Notes two actual arguments of one reference that refer to one variable, one of them for OUT or INOUT, at the later; and actual arguments for
-/// these that refer to a module variable which the called unit, or one that it reaches, names.
+/// Notes two actual arguments of one reference that refer to one variable, one of them for OUT or INOUT, at the later; and
+/// actual arguments for these that refer to a module variable which the called unit, or one that it reaches, names.
 ///
 /// # Errors
 /// `NoMemory` only where memory was refused.
@@ -132,8 +132,8 @@ fn note_writes_in(
     Ok(())
 }
 
-/// Notes the writes of INTENT(IN) dummies and PARAMETERs, what is no variable and is passed to OUT or INOUT, the dummies of functions that aren't
-/// INTENT(IN), and where a function, or what it reaches, writes a module variable.
+/// Notes the writes of INTENT(IN) dummies and PARAMETERs, what is no variable and is passed to OUT or INOUT, the dummies of
+/// functions that aren't INTENT(IN), and where a function, or what it reaches, writes a module variable.
 ///
 /// # Errors
 /// `NoMemory` only where memory was refused.

@@ -109,8 +109,8 @@ fn note_all_shares(least: &mut Least, list: &[Passed])
     }
 }
 
-/// Notes of each two actual arguments of one reference that refer to one variable, one of them for OUT or INOUT, the later. The time is
-/// quadratic in their number.
+/// Notes of each two actual arguments of one reference that refer to one variable, one of them for OUT or INOUT, the later.
+/// The time is quadratic in their number.
 ///
 /// # Errors
 /// `NoMemory` only where memory was refused.

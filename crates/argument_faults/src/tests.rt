@@ -1,7 +1,5 @@
 //! Each public function once, and the faults of one unit.
 ghost use Rattle.std.specs.Prelude.{◌≡◌, [], ◌∷◌, None, IfOk};
-ghost use Rattle.sound_programs.specs.Faults.{faults_of_names};
-ghost use Rattle.sound_programs.specs.Placing.{placed};
 
 use crate::actuals::{actuals_of, is_written};
 use crate::shared::note_shared_actuals;

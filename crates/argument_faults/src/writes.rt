@@ -190,7 +190,8 @@ fn note_steps(
     Ok(())
 }
 
-/// Notes where the unit assigns an INTENT(IN) dummy or a PARAMETER, and what it passes to an OUT or INOUT dummy that can't be written.
+/// Notes where the unit assigns an INTENT(IN) dummy or a PARAMETER, and what it passes to an OUT or INOUT dummy that can't be
+/// written.
 ///
 /// # Errors
 /// `NoMemory` only where memory was refused.
