@@ -1,0 +1,6 @@
+pub mod Arguments
+pub mod Places
+pub mod Fits
+pub mod Overlaps
+pub mod Decls
+pub mod Seeking

@@ -1,0 +1,6 @@
+pub mod Needs
+pub mod Holders
+pub mod Fitting
+pub mod Cases
+pub mod Counts
+pub mod InScopes
