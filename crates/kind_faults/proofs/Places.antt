@@ -24,6 +24,11 @@ next_sub code F items i s within is old new step =
 pub noted_flat : {A : Type 0} (code : Code) (f : A → List Place) (xs ys : List A) (r : Option Found) → noted (found code (flat_map f (xs ++ ys))) r ≡ noted (found code (flat_map f ys)) (noted (found code (flat_map f xs)) r)
 noted_flat code f xs ys r = ap (λ l. noted (found code l) r) (flat_map-append f xs ys) ∙ noted_places code (flat_map f xs) (flat_map f ys) r
 
+-- the same, for the places of what stands in each
+pub noted_inside : {A : Type 0} {B : Type 0} (code : Code) (f : B → List Place) (g : A → List B) (xs ys : List A) (r : Option Found) →
+    noted (found code (flat_map f (flat_map g (xs ++ ys)))) r ≡ noted (found code (flat_map f (flat_map g ys))) (noted (found code (flat_map f (flat_map g xs))) r)
+noted_inside code f g xs ys r = ap (λ l. noted (found code (flat_map f l)) r) (flat_map-append g xs ys) ∙ noted_flat code f (flat_map g xs) (flat_map g ys) r
+
 -- two sorts of places, and three
 pub noted_two : (code : Code) (xs ys : List Place) (old mid new : Option Found) → mid ≡ noted (found code xs) old → new ≡ noted (found code ys) mid → new ≡ noted (found code (xs ++ ys)) old
 noted_two code xs ys old mid new e h = h ∙ ap (noted (found code ys)) e ∙ sym (noted_places code xs ys old)

@@ -127,6 +127,7 @@ fn note_intrinsic_counts(least: &mut Least, parts: &[&Expr])
 ///
 /// # Errors
 /// `NoMemory` only where memory was refused.
+#[tactic(auto, using(fort_names::proofs::FirstOf::noted_places, crate::proofs::Places::noted_inside))]
 pub fn note_counts_of_step(
     alloc: Global,
     least: &mut Least,

@@ -109,7 +109,6 @@ fn note_all(
 ///
 /// # Errors
 /// `NoMemory` only where memory was refused.
-#[tactic(auto, using(crate::proofs::Seeking::kinds_are))]
 pub fn note_kinds(
     alloc: Global,
     least: &mut Least,
@@ -119,14 +118,14 @@ pub fn note_kinds(
     requires { AreSymbolsOf file.now symbols.now }
     ensures { OnOk result (least.new ≡ noted (found E32 (kind_faults (placed file.now))) least.old) }
 {
-    note_all(alloc, least, Sought::Kinds, file, symbols)
+    note_all(alloc, least, Sought::Kinds, file, symbols)?;
+    Ok(())
 }
 
 /// Notes the faults of ranks in a file, whose symbols these are. The mode gives the limit on ranks.
 ///
 /// # Errors
 /// `NoMemory` only where memory was refused.
-#[tactic(auto, using(crate::proofs::Seeking::ranks_are))]
 pub fn note_ranks(
     alloc: Global,
     least: &mut Least,
@@ -137,14 +136,14 @@ pub fn note_ranks(
     requires { AreSymbolsOf file.now symbols.now }
     ensures { OnOk result (least.new ≡ noted (found E33 (rank_faults mode (placed file.now))) least.old) }
 {
-    note_all(alloc, least, Sought::Ranks(mode), file, symbols)
+    note_all(alloc, least, Sought::Ranks(mode), file, symbols)?;
+    Ok(())
 }
 
 /// Notes the references in a file with another number of arguments than is taken. The symbols are those of the file.
 ///
 /// # Errors
 /// `NoMemory` only where memory was refused.
-#[tactic(auto, using(crate::proofs::Seeking::counts_are))]
 pub fn note_counts(
     alloc: Global,
     least: &mut Least,
@@ -154,5 +153,6 @@ pub fn note_counts(
     requires { AreSymbolsOf file.now symbols.now }
     ensures { OnOk result (least.new ≡ noted (found E37 (count_faults (placed file.now))) least.old) }
 {
-    note_all(alloc, least, Sought::Counts, file, symbols)
+    note_all(alloc, least, Sought::Counts, file, symbols)?;
+    Ok(())
 }

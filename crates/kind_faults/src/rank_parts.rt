@@ -105,7 +105,6 @@ fn is_size_along(sight: &Sight, array: &Sub, along: &Sub) -> bool
 }
 
 /// Whether SIZE can tell the size of its arguments. Where there are none or three and more, it is a matter of their number alone.
-#[tactic(auto, using(crate::proofs::Arguments::size_of_many))]
 fn is_size(sight: &Sight, args: &[Sub]) -> bool
     ensures { result ≡ size_test (means sight.now) (placed_subs args.now) }
 {
