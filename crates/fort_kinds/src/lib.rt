@@ -6,6 +6,8 @@ mod kinding;
 mod numbers;
 mod ranking;
 mod sites;
+#[cfg(test)]
+mod tests;
 
 pub use differing::differing_kind;
 pub use kinding::{is_integer, is_logical, kind_named_by, kind_of, or_default};

@@ -12,15 +12,8 @@ ghost use Rattle.fort_names.specs.Sights.{means};
 
 use crate::holder::Holder;
 use fort_kinds::first;
-use fort_names::{Least, Meaning, Sight};
-use fort_tree::{Bound, Code, Decl, Expr, Intent, Kind, Name, Named, Op, Unary};
-
-/// Whether one of these has the name.
-pub fn is_named(named: &[Named], name: &Name) -> bool
-    ensures { result ≡ units.is_listed (map (λ d. d.name) named.now) name.now }
-{
-    named.iter().map(|one| one.name).any(|other| other == *name)
-}
+use fort_names::{Least, Meaning, Sight, is_named};
+use fort_tree::{Bound, Code, Decl, Expr, Intent, Kind, Name, Op, Unary};
 
 fn is_at_most_4(kind: Kind) -> bool
     ensures { result ≡ at_most_4_test kind }

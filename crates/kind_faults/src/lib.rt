@@ -15,5 +15,7 @@ mod rank_decls;
 mod rank_parts;
 mod rank_steps;
 mod sought;
+#[cfg(test)]
+mod tests;
 
 pub use files::{note_counts, note_kinds, note_ranks};

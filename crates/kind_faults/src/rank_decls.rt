@@ -9,9 +9,8 @@ ghost use Rattle.sound_programs.specs.Scopes.{is_dummy as dummy_test};
 ghost use Rattle.fort_names.specs.Leasts.{noted};
 ghost use Rattle.kind_faults.specs.Holders.{scope_of};
 
-use crate::bounds::is_named;
 use crate::holder::Holder;
-use fort_names::Least;
+use fort_names::{Least, is_named};
 use fort_tree::{Bound, Code, Decl, Mode, Name, Named, Unit};
 
 fn greatest_rank(mode: Mode) -> usize
