@@ -4,3 +4,4 @@ pub mod Fitting
 pub mod Cases
 pub mod Counts
 pub mod InScopes
+pub mod Spans

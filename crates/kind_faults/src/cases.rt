@@ -14,6 +14,7 @@ ghost use Rattle.kind_faults.specs.Cases.{between, choice_of as choice_meant, no
 ghost use Rattle.fort_names.specs.Sights.{means};
 
 use crate::needs::{Need, note_at, note_need};
+use crate::spans::are_apart;
 use fort_kinds::{case_value, first, in_kind, kind_of};
 use fort_names::{Least, Sight};
 use fort_tree::{Case, Code, Expr, Kind, NoMemory, Place, Range};
@@ -157,7 +158,8 @@ fn choice_of(sight: &Sight, range: &Range) -> Choice
     }
 }
 
-fn is_below(a: Option<i128>, b: Option<i128>) -> bool
+/// Whether the first number of a range is at most the last number of a range.
+pub fn is_below(a: Option<i128>, b: Option<i128>) -> bool
     ensures { result ≡ below_test nobody a b }
 {
     match (a, b) {
@@ -194,12 +196,22 @@ fn note_overlaps(least: &mut Least, one: &Choice, others: &[Choice])
 }
 
 /// Notes of each two that overlap the later.
-fn note_choices(least: &mut Least, choices: &[Choice])
+fn note_each_two(least: &mut Least, choices: &[Choice])
     ensures { least.new ≡ noted (found E32 (overlapping_choices choices.now)) least.old }
 {
     for (i, one) in choices.iter().enumerate() {
         note_overlaps(least, one, &choices[i + 1..]);
     }
+}
+
+/// Notes of each two that overlap the later. Where none do, a sort of them tells it.
+fn note_choices(alloc: Global, least: &mut Least, choices: &[Choice]) -> Result<(), NoMemory>
+    ensures { OnOk result (least.new ≡ noted (found E32 (overlapping_choices choices.now)) least.old) }
+{
+    if !are_apart(alloc, choices)? {
+        note_each_two(least, choices);
+    }
+    Ok(())
 }
 
 fn choices_of(alloc: Global, sight: &Sight, ranges: &[&Range]) -> Result<Vec<Choice>, NoMemory>
@@ -250,6 +262,6 @@ pub fn note_select(
     let choices = choices_of(alloc, sight, ranges.as_slice())?;
     note_need(least, sight, Need::Integer, on);
     note_case_values(least, sight, kind_of(sight, on), ranges.as_slice());
-    note_choices(least, choices.as_slice());
+    note_choices(alloc, least, choices.as_slice())?;
     Ok(())
 }

@@ -15,6 +15,7 @@ mod rank_decls;
 mod rank_parts;
 mod rank_steps;
 mod sought;
+mod spans;
 #[cfg(test)]
 mod tests;
 

@@ -1,7 +1,7 @@
 use Rattle.std.proofs.Common.{◌<◌, ◌+◌, length, ◌∙◌, arith}
 use Rattle.std.proofs.lemmas.List.{take_rest}
 use Rattle.kind_faults.proofs.Overlaps.{next_choice}
-use Rattle.kind_faults.proofs.cases.note_choices.Goals as goal
+use Rattle.kind_faults.proofs.cases.note_each_two.Goals as goal
 
 -- src/cases.rt
 pub loop-i-preserved : goal.loop-i-preserved
