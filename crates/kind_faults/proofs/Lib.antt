@@ -5,3 +5,4 @@ pub mod Overlaps
 pub mod Apart
 pub mod Decls
 pub mod Seeking
+pub mod Logicals

@@ -2,6 +2,7 @@
 ghost use Rattle.std.specs.Prelude.{◌≡◌, ◌∷◌, ◌++◌, [], List, flat_map};
 ghost use Rattle.std.specs.Option.{option_to_list};
 ghost use Rattle.sound_programs.specs.Faults.{found};
+ghost use Rattle.sound_programs.specs.Kinding.{kind as kind_meant, is_logical as logical_test};
 ghost use Rattle.sound_programs.specs.Placed.{Expr as Placed, Subscripts};
 ghost use Rattle.sound_programs.specs.Places.{option_places};
 ghost use Rattle.sound_programs.specs.Placing.{limit, placed_expr, placed_option, placed_sub, placed_subs};
@@ -12,7 +13,7 @@ ghost use Rattle.fort_names.specs.Sights.{means};
 
 use fort_kinds::{first, first_differing, is_integer, is_logical, kind_of, rank_of};
 use fort_names::{Least, Sight};
-use fort_tree::{Code, Expr, Place, Sub};
+use fort_tree::{Code, Expr, Place, Sub, Unary};
 
 /// What is asked of an expression where it stands.
 #[derive(Clone, Copy, Debug)]
@@ -36,12 +37,27 @@ pub fn note_at(least: &mut Least, code: Code, place: Option<Place>)
     }
 }
 
+/// Whether the expression is LOGICAL. Its operands need no look: an operation is arithmetic, or it is LOGICAL.
+#[tactic(auto, using(crate::proofs::Logicals::never_logical, crate::proofs::Logicals::sign_never_logical))]
+fn is_logical_expr(sight: &Sight, expr: &Expr) -> bool
+    ensures { result ≡ logical_test (kind_meant (means sight.now) (placed_expr expr.now)) }
+{
+    match expr {
+        Expr::Two(op, _, _) => !op.is_arithmetic(),
+        Expr::One(Unary::Not, _, _) => true,
+        Expr::One(Unary::Plus | Unary::Minus, _, _) => false,
+        Expr::Paren(part, _) => is_logical_expr(sight, part.get()),
+        Expr::Number(..) | Expr::Truth(..) | Expr::Ref(_, None, _) | Expr::Ref(_, Some(_), _) =>
+            is_logical(kind_of(sight, expr)),
+    }
+}
+
 /// Notes where the expression isn't what is asked.
 pub fn note_need(least: &mut Least, sight: &Sight, need: Need, expr: &Expr)
     ensures { least.new ≡ noted (found (code_of need) (unmet (means sight.now) need (placed_expr expr.now))) least.old }
 {
     match need {
-        Need::Integer => least.note_if(is_logical(kind_of(sight, expr)), Code::E32, first(expr)),
+        Need::Integer => least.note_if(is_logical_expr(sight, expr), Code::E32, first(expr)),
         Need::Logical => least.note_if(is_integer(kind_of(sight, expr)), Code::E32, first(expr)),
         Need::Scalar => least.note_if(0 < rank_of(sight, expr), Code::E33, first(expr)),
         Need::OneRank => note_at(least, Code::E33, first_differing(sight, expr)),
