@@ -3,6 +3,7 @@ pub mod Places
 pub mod Fits
 pub mod Overlaps
 pub mod Apart
+pub mod Columns
 pub mod Decls
 pub mod Seeking
 pub mod Logicals

@@ -86,13 +86,3 @@ select_noted entity e rs ranges choices old a b new is are first second third =
     noted_three E32 (needs_integer entity e) (flat_map (case_fault entity (kind entity e)) (flat_map (values_of entity) rs)) (overlapping entity rs) old a b new first
     (second ∙ ap (λ l. noted (found E32 (flat_map (case_fault entity (kind entity e)) (flat_map (values_of entity) l))) a) is)
     (third ∙ ap (λ l. noted (found E32 l) b) (ap overlapping_choices are ∙ sym (all_are entity rs)))
-
--- one more range, before those behind it
-pub next_choice : (items : List Choice) (i : ℕ) (d : Choice) (behind : List Choice) → i < length items → behind ≡ drop (i + 1) items → (old new : Option Found) →
-    new ≡ noted (found E32 (flat_map (overlaps_of (get_or items i d)) behind)) old →
-    noted (found E32 (overlapping_choices (drop (i + 1) items))) new ≡ noted (found E32 (overlapping_choices (drop i items))) old
-next_choice items i d behind within is old new e =
-    let at : drop i items ≡ get_or items i d ∷ drop (i + 1) items = at_any items i d within in
-    ap (noted (found E32 (overlapping_choices (drop (i + 1) items)))) (e ∙ ap (λ l. noted (found E32 (flat_map (overlaps_of (get_or items i d)) l)) old) is)
-    ∙ sym (noted_places E32 (flat_map (overlaps_of (get_or items i d)) (drop (i + 1) items)) (overlapping_choices (drop (i + 1) items)) old)
-    ∙ ap (λ l. noted (found E32 (overlapping_choices l)) old) (sym at)

@@ -1,14 +1,17 @@
 -- Ranges of a SELECT, each by its numbers and its place.
-use Rattle.std.specs.Prelude.{ℤ, List, [], ◌∷◌, ◌++◌, map, Option, None, Some, flat_map, if◌then◌else◌}
+use Rattle.std.specs.Prelude.{ℤ, List, [], ◌∷◌, ◌++◌, map, Option, None, Some, Bool, false, flat_map, if◌then◌else◌}
 use denote.Ref.{Bor}
+use Rattle.fort_tree.specs.declared.fault.Code.TheVariants.{E32}
 use Rattle.fort_tree.specs.declared.place.Place.{Place}
 use Rattle.fort_tree.specs.declared.stmt.Range as tree_range
 use Rattle.claw_meaning.specs.Syntax.{Text}
 use Rattle.claw_meaning.specs.Scope.{Entity, Unknown}
+use Rattle.sound_programs.specs.Faults.{Found}
 use Rattle.sound_programs.specs.KindFaults.{edge, overlap}
 use Rattle.sound_programs.specs.Placed.{Range, Single, Span, first}
 use Rattle.sound_programs.specs.Places.{option_places}
 use Rattle.sound_programs.specs.Placing.{placed_range}
+use Rattle.fort_names.specs.Leasts.{changes}
 use Rattle.kind_faults.specs.declared.cases.Choice.{Choice}
 
 -- where names are nothing: numbers alone overlap or not
@@ -47,6 +50,15 @@ overlaps_of a b = overlaps_by a.numbers b.numbers b.at
 abbrev pub overlapping_choices : List Choice → List Place
 overlapping_choices [] = []
 overlapping_choices (a ∷ rest) = flat_map (overlaps_of a) rest ++ overlapping_choices rest
+
+-- of a range the place, for each of these before it that it overlaps
+abbrev pub overlapped_by : List Choice → Choice → List Place
+overlapped_by before b = flat_map (λ a. overlaps_of a b) before
+
+-- a fault at the place would be the least
+abbrev pub place_changes : Option Found → Option Place → Bool
+place_changes least None = false
+place_changes least (Some at) = changes least (record { code = E32; at = at })
 
 abbrev pub placed_ranges : List (Bor tree_range.Range) → List Range
 placed_ranges ranges = map (λ r. placed_range r.now) ranges

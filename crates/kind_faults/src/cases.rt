@@ -1,5 +1,5 @@
 //! The cases of a SELECT.
-ghost use Rattle.std.specs.Prelude.{◌≡◌, ◌∷◌, ◌++◌, [], Some, map, flat_map, IfOk, OnOk};
+ghost use Rattle.std.specs.Prelude.{◌≡◌, ◌∷◌, ◌++◌, ◌≤◌, [], Some, map, flat_map, length, take, IfOk, OnOk};
 ghost use Rattle.std.specs.Option.{option_to_list};
 ghost use Rattle.fort_tree.specs.declared.fault.Code.TheVariants.{E32};
 ghost use Rattle.sound_programs.specs.Faults.{found};
@@ -10,11 +10,11 @@ ghost use Rattle.sound_programs.specs.Walks.{ranges_of as ranges_meant};
 ghost use Rattle.unit_steps.specs.Acts.{cases_placed};
 ghost use Rattle.fort_names.specs.Leasts.{noted};
 ghost use Rattle.sound_programs.specs.Walks.{Chooses};
-ghost use Rattle.kind_faults.specs.Cases.{between, choice_of as choice_meant, nobody, numbers_of, overlaps_of, overlapping_choices, placed_ranges, value_place};
+ghost use Rattle.kind_faults.specs.Cases.{between, choice_of as choice_meant, nobody, numbers_of, overlaps_of, overlapped_by, overlapping_choices, place_changes, placed_ranges, value_place};
 ghost use Rattle.fort_names.specs.Sights.{means};
 
 use crate::needs::{Need, note_at, note_need};
-use crate::spans::are_apart;
+use crate::spans::apart_up_to;
 use fort_kinds::{case_value, first, in_kind, kind_of};
 use fort_names::{Least, Sight};
 use fort_tree::{Case, Code, Expr, Kind, NoMemory, Place, Range};
@@ -187,30 +187,52 @@ fn overlap_of(a: &Choice, b: &Choice) -> Option<Place>
     }
 }
 
-fn note_overlaps(least: &mut Least, one: &Choice, others: &[Choice])
-    ensures { least.new ≡ noted (found E32 (flat_map (overlaps_of one.now) others.now)) least.old }
+/// Notes the place of a range for each of these before it that it overlaps.
+fn note_overlapped(least: &mut Least, before: &[Choice], one: &Choice)
+    ensures { least.new ≡ noted (found E32 (overlapped_by before.now one.now)) least.old }
 {
-    for other in others {
-        note_at(least, Code::E32, overlap_of(one, other));
+    for other in before {
+        note_at(least, Code::E32, overlap_of(other, one));
+    }
+}
+
+/// Whether a fault at the place would be the least.
+fn would_change(least: &Least, at: Option<Place>) -> bool
+    ensures { result ≡ place_changes least.now at }
+{
+    match at {
+        None => false,
+        Some(at) => least.changes(Code::E32, at),
+    }
+}
+
+/// The same, with no look at those before it where its place would change nothing.
+#[tactic(auto, using(crate::proofs::Columns::unchanged))]
+fn note_one_more(least: &mut Least, before: &[Choice], one: &Choice)
+    ensures { least.new ≡ noted (found E32 (overlapped_by before.now one.now)) least.old }
+{
+    if would_change(least, one.at) {
+        note_overlapped(least, before, one);
+    }
+}
+
+/// Notes of each two that overlap the later, where no two of the first ones do.
+fn note_behind_first(least: &mut Least, choices: &[Choice], apart: usize)
+    requires within { apart ≤ length choices.now }
+    requires told { overlapping_choices (take apart choices.now) ≡ [] }
+    ensures { least.new ≡ noted (found E32 (overlapping_choices choices.now)) least.old }
+{
+    for i in apart..choices.len() {
+        note_one_more(least, &choices[..i], &choices[i]);
     }
 }
 
 /// Notes of each two that overlap the later.
-fn note_each_two(least: &mut Least, choices: &[Choice])
-    ensures { least.new ≡ noted (found E32 (overlapping_choices choices.now)) least.old }
-{
-    for (i, one) in choices.iter().enumerate() {
-        note_overlaps(least, one, &choices[i + 1..]);
-    }
-}
-
-/// Notes of each two that overlap the later. Where none do, a sort of them tells it.
 fn note_choices(alloc: Global, least: &mut Least, choices: &[Choice]) -> Result<(), NoMemory>
     ensures { OnOk result (least.new ≡ noted (found E32 (overlapping_choices choices.now)) least.old) }
 {
-    if !are_apart(alloc, choices)? {
-        note_each_two(least, choices);
-    }
+    let apart = apart_up_to(alloc, choices)?;
+    note_behind_first(least, choices, apart);
     Ok(())
 }
 

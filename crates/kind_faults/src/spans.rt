@@ -1,5 +1,5 @@
 //! Whether ranges of a SELECT overlap, told by a sort.
-ghost use Rattle.std.specs.Prelude.{◌≡◌, ◌∷◌, ◌++◌, ℤ, List, [], None, Option, true, if◌then◌else◌, IfOk, OnOk};
+ghost use Rattle.std.specs.Prelude.{◌≡◌, ◌≤◌, ◌∷◌, ◌++◌, ℤ, List, [], None, Option, true, if◌then◌else◌, length, take, IfOk, OnOk};
 ghost use Rattle.kind_faults.specs.Cases.{overlapping_choices};
 ghost use Rattle.kind_faults.specs.Spans.{span_before, spans_of as spans_in, is_beyond as beyond_test, ascends as ascend_from};
 
@@ -62,10 +62,48 @@ fn ascend(spans: &[Numbers]) -> bool
 ///
 /// # Errors
 /// `NoMemory` only where memory was refused.
-pub fn are_apart(alloc: Global, choices: &[Choice]) -> Result<bool, NoMemory>
+fn are_apart(alloc: Global, choices: &[Choice]) -> Result<bool, NoMemory>
     ensures { IfOk result (λ apart. apart ≡ true → overlapping_choices choices.now ≡ []) }
 {
     let mut spans = spans_of(alloc, choices)?;
     spans.sort_by_key(|span| span.0)?;
     Ok(ascend(spans.as_slice()))
+}
+
+/// The same as `apart_up_to`, where it is told of the first `low`, and asked of no more than the first `high`.
+fn apart_between(
+    alloc: Global,
+    choices: &[Choice],
+    low: usize,
+    high: usize,
+) -> Result<usize, NoMemory>
+    requires order { low ≤ high }
+    requires within { high ≤ length choices.now }
+    requires told { overlapping_choices (take low choices.now) ≡ [] }
+    ensures within { IfOk result (λ count. count ≤ length choices.now) }
+    ensures told { IfOk result (λ count. overlapping_choices (take count choices.now) ≡ []) }
+{
+    if high - low < 2 {
+        return Ok(low);
+    }
+    let middle = low + (high - low) / 2;
+    if are_apart(alloc, &choices[..middle])? {
+        apart_between(alloc, choices, middle, high)
+    } else {
+        apart_between(alloc, choices, low, middle)
+    }
+}
+
+/// How many ranges from the first on have no two that overlap, as far as sorts of them tell it: all, or as many as halving finds.
+///
+/// # Errors
+/// `NoMemory` only where memory was refused.
+pub fn apart_up_to(alloc: Global, choices: &[Choice]) -> Result<usize, NoMemory>
+    ensures within { IfOk result (λ count. count ≤ length choices.now) }
+    ensures told { IfOk result (λ count. overlapping_choices (take count choices.now) ≡ []) }
+{
+    if are_apart(alloc, choices)? {
+        return Ok(choices.len());
+    }
+    apart_between(alloc, choices, 0, choices.len())
 }
