@@ -1,5 +1,5 @@
 -- Ranges of which, in some order, each is above those before it: no two overlap.
-use Rattle.std.proofs.Common.{◌≡◌, ℕ, suc, ◌+◌, Bool, true, false, not, ◌&&◌, ◌||◌, List, [], ◌∷◌, ◌++◌, Option, None, Some, if◌then◌else◌, refl, sym, ap, ◌∙◌, arith}
+use Rattle.std.proofs.Common.{◌≡◌, ℕ, ◌+◌, Bool, true, false, not, ◌&&◌, ◌||◌, List, [], ◌∷◌, ◌++◌, Option, None, Some, if◌then◌else◌, refl, sym, ap, ◌∙◌, arith}
 use Rattle.std.specs.Prelude.{ℤ, int_le, nat_lt, flat_map, IsPermutation}
 use Rattle.std.specs.List.{sum_by, list_any}
 use Rattle.std.proofs.lemmas.Bool.{false≢true}
@@ -11,7 +11,7 @@ use Rattle.sound_programs.specs.KindFaults.{is_below, overlap}
 use Rattle.fort_tree.specs.declared.place.Place.{Place}
 use Rattle.sound_programs.specs.Places.{option_places}
 use Rattle.kind_faults.specs.declared.cases.Choice.{Choice}
-use Rattle.kind_faults.specs.Cases.{nobody, overlaps_by, overlaps_of, overlapping_choices}
+use Rattle.kind_faults.specs.Cases.{nobody, overlaps_by, overlapping_choices}
 use Rattle.kind_faults.specs.Spans.{span_before, spans_of, ascends}
 
 abbrev Span : Type 0

@@ -1,14 +1,13 @@
 -- Ranges of a SELECT by the later of two that overlap.
-use Rattle.std.proofs.Common.{◌≡◌, ℕ, ◌+◌, ◌<◌, length, take, get_or, Bool, true, false, ◌||◌, List, [], ◌∷◌, ◌++◌, Option, None, Some, if◌then◌else◌, refl, sym, ap, ◌∙◌, arith}
+use Rattle.std.proofs.Common.{◌≡◌, Bool, true, false, ◌||◌, List, [], ◌∷◌, ◌++◌, Option, None, Some, if◌then◌else◌, refl, sym, ap, ◌∙◌, arith}
 use Rattle.std.specs.Prelude.{ℤ, flat_map}
 use Rattle.std.proofs.lemmas.Bool.{false≢true}
 use Rattle.std.proofs.lemmas.Bool.Decides.{nat_tests}
 use Rattle.std.proofs.lemmas.Grind.{flat_map-append}
 use Rattle.fort_tree.specs.declared.fault.Code.TheVariants.{E32}
 use Rattle.fort_tree.specs.declared.place.Place.{Place}
-use Rattle.sound_programs.specs.Faults.{Found, found, is_before}
+use Rattle.sound_programs.specs.Faults.{Found, found}
 use Rattle.sound_programs.specs.KindFaults.{overlap}
-use Rattle.sound_programs.specs.Places.{option_places}
 use Rattle.fort_names.specs.Leasts.{note, noted, changes}
 use Rattle.fort_names.specs.Reached.{is_by, some_by}
 use Rattle.fort_names.proofs.FirstOf.{noted_places}

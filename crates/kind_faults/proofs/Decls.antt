@@ -1,8 +1,7 @@
 -- Declarations, one after the other.
-use Rattle.std.proofs.Common.{◌≡◌, Bool, true, false, List, [], ◌∷◌, ◌++◌, map, if◌then◌else◌, Option, refl, ap, ◌∙◌}
+use Rattle.std.proofs.Common.{◌≡◌, Bool, true, false, List, ◌∷◌, ◌++◌, map, if◌then◌else◌, Option, refl, ap, ◌∙◌}
 use Rattle.std.specs.List.{filter}
 use Rattle.fort_tree.specs.declared.fault.Code.TheVariants.{E33}
-use Rattle.fort_tree.specs.declared.place.Place.{Place}
 use Rattle.sound_programs.specs.Faults.{Found, found}
 use Rattle.sound_programs.specs.Placed.{Decl}
 use Rattle.sound_programs.specs.Places.{where_place}

@@ -1,5 +1,5 @@
 -- Ranges overlap where their choices do.
-use Rattle.std.proofs.Common.{◌≡◌, ℕ, ◌+◌, ◌<◌, length, get_or, drop, Bool, true, false, ◌&&◌, List, [], ◌∷◌, ◌++◌, map, Option, None, Some, if◌then◌else◌, refl, sym, ap, ◌∙◌}
+use Rattle.std.proofs.Common.{◌≡◌, Bool, true, false, ◌&&◌, List, [], ◌∷◌, ◌++◌, map, Option, None, Some, if◌then◌else◌, refl, sym, ap, ◌∙◌}
 use Rattle.std.specs.Prelude.{ℤ, flat_map}
 use Rattle.std.specs.Option.{option_to_list}
 use denote.Ref.{Bor}
@@ -15,10 +15,8 @@ use Rattle.sound_programs.specs.Faults.{Found, found}
 use Rattle.sound_programs.specs.Kinding.{kind}
 use Rattle.sound_programs.specs.Walks.{Chooses}
 use Rattle.fort_names.specs.Leasts.{noted}
-use Rattle.fort_names.proofs.FirstOf.{noted_places}
 use Rattle.kind_faults.specs.declared.cases.Choice.{Choice}
 use Rattle.kind_faults.proofs.Places.{noted_three}
-use Rattle.kind_faults.proofs.Arguments.{at_any}
 use Rattle.kind_faults.specs.Cases.{nobody, between, numbers_of, value_place, choice_of, overlaps_by, overlaps_of, overlapping_choices, placed_ranges}
 
 module _ (entity : Text → Entity) where

@@ -9,13 +9,12 @@ use Rattle.fort_tree.specs.declared.fault.Code.{Code}
 use Rattle.fort_tree.specs.declared.place.Place.{Place}
 use Rattle.fort_tree.specs.declared.unit.Module as tree_module
 use Rattle.fort_tree.specs.declared.unit.Unit as tree_unit
-use Rattle.claw_meaning.specs.Syntax as plain
 use Rattle.claw_meaning.specs.Syntax.{Text}
 use Rattle.claw_meaning.specs.Scope.{Entity}
 use Rattle.sound_programs.specs.ArgumentFaults.{count_faults}
 use Rattle.sound_programs.specs.Faults.{Found, found}
 use Rattle.sound_programs.specs.KindFaults.{kind_faults, kind_faults_in_scope}
-use Rattle.sound_programs.specs.Placed.{Module, Unit, Program, bare_program}
+use Rattle.sound_programs.specs.Placed.{Module, Program, bare_program}
 use Rattle.sound_programs.specs.Placing.{placed_module, placed_unit}
 use Rattle.sound_programs.specs.RankFaults.{rank_faults, rank_faults_in_scope}
 use Rattle.sound_programs.specs.Scopes.{Scope, Of_unit, Of_module, scopes}

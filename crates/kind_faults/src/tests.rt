@@ -3,7 +3,8 @@
 use crate::{note_counts, note_kinds, note_ranks};
 use fort_names::{Least, symbols_of};
 use fort_tree::{
-    Bound, Code, Decl, Expr, File, Kind, Mode, Name, NoMemory, Place, Seq, Stmt, Sub, Unit,
+    Bound, Case, Code, Decl, Expr, File, Kind, Mode, Name, NoMemory, Place, Range, Seq, Stmt, Sub,
+    Unit,
 };
 use std::alloc::Global;
 use std::test::Fail;
@@ -54,6 +55,31 @@ fn two_arguments(alloc: Global) -> Option<Stmt> {
     let mut args = only(alloc, Sub::One(number()))?;
     args.push(Sub::One(number())).ok()?;
     assigned(Some(Expr::Ref(Name::read(b"abs")?, Some(args), AT)))
+}
+
+/// `select case (1)` with one case of these two ranges.
+fn chosen(alloc: Global, first: Range, second: Range) -> Option<Stmt> {
+    let mut ranges = only(alloc, first)?;
+    ranges.push(second).ok()?;
+    let body = Seq::new(alloc);
+    let arms = only(alloc, Case { ranges, body })?;
+    Some(Stmt::Select {
+        at: AT,
+        on: number(),
+        arms,
+        other: None,
+    })
+}
+
+/// `case (1, 1)`
+fn chosen_twice(alloc: Global) -> Option<Stmt> {
+    chosen(alloc, Range::One(number()), Range::One(number()))
+}
+
+/// `case (1:, :0)`
+fn chosen_once(alloc: Global) -> Option<Stmt> {
+    let below = Range::Span(None, Some(Expr::Number(0, None, AT)));
+    chosen(alloc, Range::Span(Some(number()), None), below)
 }
 
 /// Dimensions up to 1.
@@ -124,8 +150,10 @@ fn first_code(alloc: Global, mode: Mode, file: &File) -> Result<Option<Code>, No
 
 #[test]
 fn faults_of_one_statement(rt: HostRuntime) -> Result<(), Fail> {
-    let rows: [(fn(Global) -> Option<Stmt>, Option<Code>); 4] = [
+    let rows: [(fn(Global) -> Option<Stmt>, Option<Code>); 6] = [
         (good, None),
+        (chosen_once, None),
+        (chosen_twice, Some(Code::E32)),
         (truth, Some(Code::E32)),
         (array, Some(Code::E33)),
         (two_arguments, Some(Code::E37)),

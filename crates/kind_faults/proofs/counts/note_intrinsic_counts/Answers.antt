@@ -3,7 +3,7 @@ use Rattle.kind_faults.specs.Counts.{intrinsic_count}
 use Rattle.fort_names.proofs.FirstOf.{next_places}
 use Rattle.fort_tree.specs.declared.fault.Code.TheVariants.{E37}
 use Rattle.sound_programs.specs.Placing.{placed_expr}
-use Rattle.sound_programs.specs.Walks.{parts, reference}
+use Rattle.sound_programs.specs.Walks.{reference}
 use Rattle.std.proofs.lemmas.Grind.{flat_map-append}
 use Rattle.std.specs.Prelude.{flat_map}
 use Rattle.unit_steps.specs.Behind.{exprs}

@@ -3,7 +3,6 @@ use Rattle.fort_names.specs.Leasts.{noted}
 use Rattle.fort_tree.specs.declared.fault.Code.TheVariants.{E32}
 use Rattle.sound_programs.specs.Faults.{found}
 use Rattle.sound_programs.specs.KindFaults.{literal_fault}
-use Rattle.sound_programs.specs.Walks.{parts}
 use Rattle.std.specs.Prelude.{flat_map}
 use Rattle.unit_steps.specs.Behind.{exprs}
 use Rattle.kind_faults.proofs.kind_decls.note_literals_of_parts.Given as goal

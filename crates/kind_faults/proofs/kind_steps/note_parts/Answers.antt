@@ -4,7 +4,6 @@ use Rattle.fort_names.specs.Sights.{means}
 use Rattle.fort_tree.specs.declared.fault.Code.TheVariants.{E32}
 use Rattle.sound_programs.specs.KindFaults.{kind_faults_of_part}
 use Rattle.sound_programs.specs.Placing.{placed_expr}
-use Rattle.sound_programs.specs.Walks.{parts}
 use Rattle.std.specs.Prelude.{flat_map}
 use Rattle.unit_steps.specs.Behind.{exprs}
 use Rattle.kind_faults.proofs.kind_steps.note_parts.Goals as goal

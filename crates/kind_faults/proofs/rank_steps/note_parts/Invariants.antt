@@ -4,7 +4,6 @@ use Rattle.fort_names.specs.Sights.{means}
 use Rattle.fort_tree.specs.declared.fault.Code.TheVariants.{E33}
 use Rattle.sound_programs.specs.Faults.{found}
 use Rattle.sound_programs.specs.RankFaults.{rank_faults_of_part}
-use Rattle.sound_programs.specs.Walks.{parts}
 use Rattle.std.specs.Prelude.{flat_map}
 use Rattle.unit_steps.specs.Behind.{exprs}
 use Rattle.kind_faults.proofs.rank_steps.note_parts.Given as goal
