@@ -10,6 +10,7 @@ ghost use Rattle.fort_names.specs.Sights.{means};
 use fort_names::Sight;
 use fort_tree::{ByName, Expr, Intrinsic, Kind, Name, Sub, Unary};
 
+/// The kind of a literal with this suffix: without one that of 4 bytes.
 pub fn or_default(suffix: Option<Kind>) -> Kind
     ensures { result ≡ kind_or_default suffix }
 {
