@@ -1,0 +1,5 @@
+pub mod Entity0
+pub mod Form0
+pub mod FormLines0
+pub mod Undirected
+pub mod Writable
