@@ -1,1 +1,4 @@
 mod DeclaredAlone
+mod PlainStatements
+mod SaidForms
+mod BodiesWritten
