@@ -11,9 +11,9 @@ use Rattle.fort_tree.specs.Name.{lowercase}
 use Rattle.fort_grammar.specs.declared.class.Class.TheVariants as class
 use Rattle.fort_grammar.specs.declared.class.Class.{Class}
 use Rattle.fort_grammar.specs.Token.{token_class}
-use Rattle.written_programs.specs.Form0 as f
-use Rattle.written_programs.specs.Form0.{IsWords, IsKind, IsType, IsBound, IsBoundOption, IsDimension, IsShape, IsOwnShape, IsInitial, IsEntity, IsEntities, IsConstant, IsConstants, IsIntent, IsIntentAttribute, IsDimensionAttribute, IsAttributes, IsDeclaration, declared}
-use Rattle.written_programs.specs.Entity0.{Entity}
+use Rattle.fort_stmt.specs.Form as f
+use Rattle.fort_stmt.specs.Form.{IsWords, IsKind, IsType, IsBound, IsBoundOption, IsDimension, IsShape, IsOwnShape, IsInitial, IsEntity, IsEntities, IsConstant, IsConstants, IsIntent, IsIntentAttribute, IsDimensionAttribute, IsAttributes, IsDeclaration, declared}
+use Rattle.fort_stmt.specs.declared.value.Entity.{Entity}
 
 -- Tokens that are this before any others
 pub record Alone {A : Type 0} (R : List Token → List Token → A → Type 0) (a : A) : Type 0 where

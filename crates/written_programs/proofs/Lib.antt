@@ -1,4 +1,6 @@
 mod DeclaredAlone
 mod PlainStatements
+mod FirstLevels
 mod SaidForms
 mod BodiesWritten
+mod HeaderForms

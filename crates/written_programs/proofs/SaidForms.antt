@@ -8,7 +8,7 @@ use Rattle.fort_tree.specs.declared.statement.Token.{Token}
 use Rattle.fort_tree.specs.declared.place.Place.{Place}
 use Rattle.fort_expr.specs.Words.{front_place}
 use Rattle.sound_programs.specs.Forms.{Form, Says, Directs}
-use Rattle.written_programs.specs.Form0.{IsStatement}
+use Rattle.fort_stmt.specs.Form.{IsStatement}
 use Rattle.written_programs.specs.FormLines0 as line
 use Rattle.written_programs.specs.FormLines0.{TokenLine, HaveForms}
 

@@ -5,7 +5,7 @@ use Rattle.fort_tree.specs.declared.statement.Statement.{Statement, out-Statemen
 use Rattle.fort_tree.specs.declared.statement.Token.{Token}
 use Rattle.fort_tree.specs.declared.stmt.Directive.{Directive}
 use Rattle.fort_expr.specs.Words.{front_place}
-use Rattle.written_programs.specs.Form0.{IsStatement}
+use Rattle.fort_stmt.specs.Form.{IsStatement}
 use Rattle.claw_lines.specs.Forms.{IsLine}
 use Rattle.claw_meaning.specs.Plain.{plain_file}
 use Rattle.sound_programs.specs.Forms.{Form, Says, Directs}
