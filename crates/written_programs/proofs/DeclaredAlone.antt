@@ -129,7 +129,7 @@ constants_alone : {w z : List Token} {l : List Entity} → IsConstants w z l →
 constants_alone (f.first_constant e) = (constant_alone e, tt)
 constants_alone (f.next_constant {l = l} {d = d} c es h e) = each_append (Alone IsConstant) l (d ∷ []) (constants_alone es) (constant_alone e, tt)
 
-each_mapped : {A B : Type 0} (P : A → Type 0) (Q : B → Type 0) (g : A → B) (xs : List A) → ((x : A) → P x → Q (g x)) → AllByRecursion P xs → AllByRecursion Q (map g xs)
+pub each_mapped : {A B : Type 0} (P : A → Type 0) (Q : B → Type 0) (g : A → B) (xs : List A) → ((x : A) → P x → Q (g x)) → AllByRecursion P xs → AllByRecursion Q (map g xs)
 each_mapped P Q g [] h k = tt
 each_mapped P Q g (x ∷ xs) h k = (h x k.0, each_mapped P Q g xs h k.1)
 

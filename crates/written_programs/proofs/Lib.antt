@@ -4,3 +4,4 @@ mod FirstLevels
 mod SaidForms
 mod BodiesWritten
 mod HeaderForms
+mod UnitsWritten
