@@ -5,3 +5,4 @@ mod SaidForms
 mod BodiesWritten
 mod HeaderForms
 mod UnitsWritten
+mod Behind

@@ -187,3 +187,61 @@ end_lines p = say (say_end p) no_lines
 
 end_fits : (w : EndWord) (name : List ℕ) (p : Place) → Ends Target w name p (end_form p)
 end_fits w name p = nesting.bare (end_stands p)
+
+module _ (host : Option ℕ) (name : Named) (dummies : List Named) (lines : List Use) (body : List Stmt) (ds : List plain.Decl) where
+  abbrev plain_of : Option (List ℕ) → plain.Unit
+  plain_of result = record { name = name.name; dummies = map (λ d. d.name) dummies; result = result; uses = map plain_use lines; decls = ds; marks = []; body = plain_stmts body; host = host }
+
+  subroutine_written : IsSaid (Statement-F.Subroutine name dummies) → ((t : List Form) → UsesAgain lines t) → AllByRecursion CanDeclare ds → ((t : List Form) → BodyAgain in_unit body t) → CanBeWritten (plain_of None)
+  subroutine_written s uses c bodies =
+      let b = bodies (end_form (place_said s) ∷ []) in
+      let d = decls_again ds c b.forms in
+      let u = uses d.forms in
+      let l = say s (u.lined (d.lined (b.lined (end_lines (place_said s))))) in
+      let e = d.same in
+      let f = b.same in
+      record {
+        lines = l.lines;
+        forms = Says (place_said s) (Statement-F.Subroutine name dummies) ∷ u.forms;
+        written = record { name = name.name; at = name.at; dummies = dummies; result = None; uses = lines; decls = d.decls; marks = []; body = b.stmts; host = host };
+        have = l.have;
+        nest = nesting.subroutine {at = place_said s} {name = name} {dummies = dummies} (target_head u.nest d.nest) nesting.unpaired b.nest (end_fits _ name.name (place_said s));
+        same = λ t. record { name = name.name; dummies = map (λ d. d.name) dummies; result = None; uses = map plain_use lines; decls = e t; marks = []; body = f t; host = host };
+      }
+
+  function_written : (result : Option Named) → IsSaid (Statement-F.Function None name dummies result) → ((t : List Form) → UsesAgain lines t) → AllByRecursion CanDeclare ds → ((t : List Form) → BodyAgain in_unit body t) →
+      CanBeWritten (plain_of (Some (result_named name result).name))
+  function_written result s uses c bodies =
+      let b = bodies (end_form (place_said s) ∷ []) in
+      let d = decls_again ds c b.forms in
+      let u = uses d.forms in
+      let l = say s (u.lined (d.lined (b.lined (end_lines (place_said s))))) in
+      let e = d.same in
+      let f = b.same in
+      record {
+        lines = l.lines;
+        forms = Says (place_said s) (Statement-F.Function None name dummies result) ∷ u.forms;
+        written = record { name = name.name; at = name.at; dummies = dummies; result = Some (result_named name result); uses = lines; decls = d.decls; marks = []; body = b.stmts; host = host };
+        have = l.have;
+        nest = nesting.function {at = place_said s} {prefix = None} {name = name} {dummies = dummies} {result = result} (target_head u.nest d.nest) b.nest (end_fits _ name.name (place_said s));
+        same = λ t. record { name = name.name; dummies = map (λ d. d.name) dummies; result = Some (result_named name result).name; uses = map plain_use lines; decls = e t; marks = []; body = f t; host = host };
+      }
+
+module _ (mode : Mode) where
+  result_first : (name : Named) (result : Option Named) (prefix : Option (Kind × Place)) (decls : List Decl) → CanDeclareResult (result_named name result) prefix → AllByRecursion CanDeclare (map plain_decl decls) →
+      AllByRecursion CanDeclare (map plain_decl (nesting.prefix_decl mode (result_named name result) prefix ++ decls))
+  result_first name result None decls c h = h
+  result_first name result (Some p) decls c h = (c, h)
+
+  -- a unit without directives can be written, with its declarations grouped
+  pub unit_written : {host : Option ℕ} {fs rest : List Form} {x : tree_unit.Unit} → IsUnit mode host fs x rest → HasNoDirective (plain_unit x) → AreSaid fs → CanBeWritten (regrouped (plain_unit x))
+  unit_written {host = host} {x = x} (nesting.subroutine {name = name} {dummies = dummies} {lines = lines} {pair = pair} {mark = mark} {body = body} h q b e) n k =
+      let marks = map_none plain_directive (pair ++ mark) n.marks in
+      let a = head_again mode h (first_none pair mark marks) k.1 in
+      let c = body_again mode b n.body a.behind in
+      subroutine_written host name dummies lines body (written_decls (plain_unit x) no_widening) k.0 a.uses (each_written CanDeclare (plain_unit x) n.marks a.alone) c.1
+  unit_written {host = host} {x = x} (nesting.function {prefix = prefix} {name = name} {dummies = dummies} {result = result} {lines = lines} {decls = decls} {body = body} h b e) n k =
+      let a = head_again mode h refl k.1 in
+      let c = body_again mode b n.body a.behind in
+      let s = said_otherwise k.0 in
+      function_written host name dummies lines body (written_decls (plain_unit x) no_widening) result s.0 a.uses (each_written CanDeclare (plain_unit x) n.marks (result_first name result prefix decls s.1 a.alone)) c.1
