@@ -6,3 +6,5 @@ mod BodiesWritten
 mod HeaderForms
 mod UnitsWritten
 mod Behind
+mod Longer
+mod ProgramsWritten

@@ -179,13 +179,13 @@ target_head {gs = gs} {rest = rest} u d = record {
 
 -- ---- Units
 
-abbrev end_form : Place → Form
+abbrev pub end_form : Place → Form
 end_form p = Says (place_said (say_end p)) (Statement-F.End None None)
 
-end_lines : (p : Place) → Lined (end_form p ∷ [])
+pub end_lines : (p : Place) → Lined (end_form p ∷ [])
 end_lines p = say (say_end p) no_lines
 
-end_fits : (w : EndWord) (name : List ℕ) (p : Place) → Ends Target w name p (end_form p)
+pub end_fits : (w : EndWord) (name : List ℕ) (p : Place) → Ends Target w name p (end_form p)
 end_fits w name p = nesting.bare (end_stands p)
 
 module _ (host : Option ℕ) (name : Named) (dummies : List Named) (lines : List Use) (body : List Stmt) (ds : List plain.Decl) where
