@@ -20,7 +20,7 @@ use Rattle.claw_meaning.specs.Syntax as plain
 use Rattle.sound_programs.specs.Forms.{Form, Says, Directs, is_range}
 use Rattle.sound_programs.specs.Nesting as nesting
 use Rattle.sound_programs.specs.Nesting.{Inside, in_loop, arm, case, Simple, Body, One, Arms, Cases}
-use Rattle.written_programs.specs.Undirected.{IsUndirected, StmtsAreUndirected, ArmsAreUndirected, CasesAreUndirected, OtherwiseIsUndirected}
+use Rattle.written_programs.proofs.NoDirectives.{Undirected, StmtsAreUndirected, ArmsAreUndirected, CasesAreUndirected, OtherwiseIsUndirected}
 use Rattle.written_programs.proofs.PlainStatements
 use Rattle.written_programs.proofs.PlainStatements.{plain_arm, plain_case}
 use Rattle.written_programs.proofs.SaidForms.{IsSaid, place_said, AreSaid, Lined, say}
@@ -81,8 +81,8 @@ again {at = at} p (nesting.returns e) = record { stmt = tree.Return p; is = nest
 abbrev Passed : List Form → (List Form → Type 0) → Type 0
 Passed rest Again = AreSaid rest × ((t : List Form) → Again t)
 
-undirected_if : (at : Place) (arms : List Arm) (other : Option (List Stmt)) → IsUndirected (plain_stmt (tree.If at arms other)) → ArmsAreUndirected (arms_of (map plain_arm arms)) × OtherwiseIsUndirected (otherwise (option_map (map plain_stmt) other))
-undirected_if at arms other u = subst IsUndirected (PlainStatements.plain_if at arms other) u
+undirected_if : (at : Place) (arms : List Arm) (other : Option (List Stmt)) → Undirected (plain_stmt (tree.If at arms other)) → ArmsAreUndirected (arms_of (map plain_arm arms)) × OtherwiseIsUndirected (otherwise (option_map (map plain_stmt) other))
+undirected_if at arms other u = subst Undirected (PlainStatements.plain_if at arms other) u
 
 undirected_arm : (test : Expr) (body : List Stmt) (rest : plain.Arms) → ArmsAreUndirected (plain_arm (arm test body) rest) → StmtsAreUndirected (plain_stmts body) × ArmsAreUndirected rest
 undirected_arm test body rest u = subst ArmsAreUndirected (PlainStatements.plain_an_arm test body rest) u
@@ -231,9 +231,9 @@ module _ (mode : Mode) where
         let b = body_again others u.1 a.0 in
         (b.0, λ t. more_again (b.1 t) (a.1 (b.1 t).forms))
 
-    one_again : {around : Inside} {forms rest : List Form} {s : Stmt} → One mode around forms s rest → IsUndirected (plain_stmt s) → AreSaid forms → Passed rest (OneAgain around s)
+    one_again : {around : Inside} {forms rest : List Form} {s : Stmt} → One mode around forms s rest → Undirected (plain_stmt s) → AreSaid forms → Passed rest (OneAgain around s)
     one_again (nesting.simple x) u h = (h.1, λ t. simple_again h.0 x t)
-    one_again (nesting.forwarded {at = at} {name = name} {args = args} w) u h = absurd (true≢false (subst IsUndirected (PlainStatements.plain_call at name args true) u))
+    one_again (nesting.forwarded {at = at} {name = name} {args = args} w) u h = absurd (true≢false (subst Undirected (PlainStatements.plain_call at name args true) u))
     one_again (nesting.if_action x) u h = (h.1, λ t. action_again h.0 x t)
     one_again (nesting.if_then {at = at} {test = test} {body = body} {arms = arms} {other = other} inside others) u h =
         let v = undirected_if at (arm test body ∷ arms) other u in
@@ -242,16 +242,16 @@ module _ (mode : Mode) where
         let a = arms_again others w.1 v.1 b.0 in
         (a.0, λ t. if_again at h.0 (a.1 t) (b.1 (a.1 t).forms))
     one_again (nesting.selects {at = at} {on = on} {cases = cases} {other = other} inside) u h =
-        let v : CasesAreUndirected (cases_of (map plain_case cases)) × OtherwiseIsUndirected (otherwise (option_map (map plain_stmt) other)) = subst IsUndirected (PlainStatements.plain_select at on cases other) u in
+        let v : CasesAreUndirected (cases_of (map plain_case cases)) × OtherwiseIsUndirected (otherwise (option_map (map plain_stmt) other)) = subst Undirected (PlainStatements.plain_select at on cases other) u in
         let c = cases_again inside v.0 v.1 h.1 in (c.0, λ t. select_again at h.0 (c.1 t))
     one_again (nesting.loops {at = at} {head = head} {body = body} inside) u h =
-        let v : StmtsAreUndirected (plain_stmts body) × (None ≡ None) = subst IsUndirected (PlainStatements.plain_loop at head body None) u in
+        let v : StmtsAreUndirected (plain_stmts body) × (None ≡ None) = subst Undirected (PlainStatements.plain_loop at head body None) u in
         let b = body_again inside v.0 h.1 in
         (b.0.1, λ t. loop_again at h.0 b.0.0 (b.1 (Says (place_said b.0.0) Statement-F.EndDo ∷ t)))
     one_again (nesting.directed {d = d} {at = at} {head = head} {body = body} w inside) u h =
-        let v : StmtsAreUndirected (plain_stmts body) × (Some (plain_directive d) ≡ None) = subst IsUndirected (PlainStatements.plain_loop at head body (Some d)) u in
+        let v : StmtsAreUndirected (plain_stmts body) × (Some (plain_directive d) ≡ None) = subst Undirected (PlainStatements.plain_loop at head body (Some d)) u in
         let e = v.1 in absurd cc
-    one_again (nesting.block {d = d} {body = body} w v inside) u h = absurd (subst IsUndirected (PlainStatements.plain_block d.at d body) u)
+    one_again (nesting.block {d = d} {body = body} w v inside) u h = absurd (subst Undirected (PlainStatements.plain_block d.at d body) u)
 
     arms_again : {around : Inside} {forms rest : List Form} {arms : List Arm} {other : Option (List Stmt)} → Arms mode around forms arms other rest → ArmsAreUndirected (arms_of (map plain_arm arms)) →
         OtherwiseIsUndirected (otherwise (option_map (map plain_stmt) other)) → AreSaid forms → Passed rest (ArmsAgain around arms other)

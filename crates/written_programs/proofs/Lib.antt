@@ -2,9 +2,11 @@ mod DeclaredAlone
 mod PlainStatements
 mod FirstLevels
 mod SaidForms
+mod NoDirectives
 mod BodiesWritten
 mod HeaderForms
 mod UnitsWritten
 mod Behind
 mod Longer
 mod ProgramsWritten
+mod LinesSaid

@@ -22,7 +22,9 @@ use Rattle.claw_meaning.specs.Units.{directive_of, is_word_define, is_word_paral
 use Rattle.sound_programs.specs.Forms.{Form, Says, Directs, is_entity}
 use Rattle.sound_programs.specs.Nesting as nesting
 use Rattle.sound_programs.specs.Nesting.{Uses, Implicit, Declares, Marked, Head-part, Ends, IsUnit, Body, in_unit}
-use Rattle.written_programs.specs.Undirected.{HasNoDirective, StmtsAreUndirected, regrouped}
+use Rattle.written_programs.specs.Regrouped.{regrouped}
+use Rattle.written_programs.specs.Undirected.{IsUndirected}
+use Rattle.written_programs.proofs.NoDirectives.{all_undirected}
 use Rattle.written_programs.specs.Writable.{CanBeWritten}
 use Rattle.written_programs.proofs.BodiesWritten.{BodyAgain, body_again}
 use Rattle.written_programs.proofs.DeclaredAlone.{IsAlone, each_append, each_mapped}
@@ -31,15 +33,15 @@ use Rattle.written_programs.proofs.SaidForms.{IsSaid, AreSaid, Lined, no_lines, 
 
 -- ---- Lists
 
-first_none : {A : Type 0} (k l : List A) → k ++ l ≡ [] → k ≡ []
+pub first_none : {A : Type 0} (k l : List A) → k ++ l ≡ [] → k ≡ []
 first_none [] l e = refl
 first_none (x ∷ k) l e = absurd cc
 
-second_none : {A : Type 0} (k l : List A) → k ++ l ≡ [] → l ≡ []
+pub second_none : {A : Type 0} (k l : List A) → k ++ l ≡ [] → l ≡ []
 second_none [] l e = e
 second_none (x ∷ k) l e = absurd cc
 
-some_none : {A : Type 0} {x : A} {l : List A} → x ∷ l ≡ [] → ⊥
+pub some_none : {A : Type 0} {x : A} {l : List A} → x ∷ l ≡ [] → ⊥
 some_none e = cc
 
 map_none : {A B : Type 0} (g : A → B) (l : List A) → map g l ≡ [] → l ≡ []
@@ -234,14 +236,14 @@ module _ (mode : Mode) where
   result_first name result (Some p) decls c h = (c, h)
 
   -- a unit without directives can be written, with its declarations grouped
-  pub unit_written : {host : Option ℕ} {fs rest : List Form} {x : tree_unit.Unit} → IsUnit mode host fs x rest → HasNoDirective (plain_unit x) → AreSaid fs → CanBeWritten (regrouped (plain_unit x))
+  pub unit_written : {host : Option ℕ} {fs rest : List Form} {x : tree_unit.Unit} → IsUnit mode host fs x rest → IsUndirected (plain_unit x) → AreSaid fs → CanBeWritten (regrouped (plain_unit x))
   unit_written {host = host} {x = x} (nesting.subroutine {name = name} {dummies = dummies} {lines = lines} {pair = pair} {mark = mark} {body = body} h q b e) n k =
-      let marks = map_none plain_directive (pair ++ mark) n.marks in
+      let marks = map_none plain_directive (pair ++ mark) n.0 in
       let a = head_again mode h (first_none pair mark marks) k.1 in
-      let c = body_again mode b n.body a.behind in
-      subroutine_written host name dummies lines body (written_decls (plain_unit x) no_widening) k.0 a.uses (each_written CanDeclare (plain_unit x) n.marks a.alone) c.1
+      let c = body_again mode b (all_undirected (plain_unit x).body n.1) a.behind in
+      subroutine_written host name dummies lines body (written_decls (plain_unit x) no_widening) k.0 a.uses (each_written CanDeclare (plain_unit x) n.0 a.alone) c.1
   unit_written {host = host} {x = x} (nesting.function {prefix = prefix} {name = name} {dummies = dummies} {result = result} {lines = lines} {decls = decls} {body = body} h b e) n k =
       let a = head_again mode h refl k.1 in
-      let c = body_again mode b n.body a.behind in
+      let c = body_again mode b (all_undirected (plain_unit x).body n.1) a.behind in
       let s = said_otherwise k.0 in
-      function_written host name dummies lines body (written_decls (plain_unit x) no_widening) result s.0 a.uses (each_written CanDeclare (plain_unit x) n.marks (result_first name result prefix decls s.1 a.alone)) c.1
+      function_written host name dummies lines body (written_decls (plain_unit x) no_widening) result s.0 a.uses (each_written CanDeclare (plain_unit x) n.0 (result_first name result prefix decls s.1 a.alone)) c.1

@@ -1,3 +1,4 @@
 pub mod FormLines0
 pub mod Undirected
+pub mod Regrouped
 pub mod Writable

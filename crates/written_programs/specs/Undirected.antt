@@ -1,43 +1,36 @@
--- Units without directives, and how they are written.
-use Rattle.std.specs.Prelude.{◌≡◌, [], Bool, false, Option, None, ⊤}
+-- Units without directives: no line before the first statement, no CALL under `parallelize forward`, no loop with a
+-- directive or mark, and no block or group of one.
+use Rattle.std.specs.Prelude.{◌≡◌, [], Bool, true, false, ◌&&◌, not, is_none}
 use Rattle.claw_meaning.specs.Syntax.{Stmt, Assign, Call, If, Select, Do, Block, Piece, Exit, Cycle, Return, Stmts, Done, Then, Arms, No_arm, Arm, Cases, No_case, Case, Otherwise, Nothing_else, Else, Unit}
-use Rattle.claw_meaning.specs.Interface.{written_decls, no_widening}
 
--- no CALL is under `parallelize forward`, no loop has a directive, and there is no block of directives and no piece of one
 abbrev mutual
-  pub IsUndirected : Stmt → Type 0
-  IsUndirected (Assign left right) = ⊤
-  IsUndirected (Call x args forward) = forward ≡ false
-  IsUndirected (If arms other) = ArmsAreUndirected arms × OtherwiseIsUndirected other
-  IsUndirected (Select e cases other) = CasesAreUndirected cases × OtherwiseIsUndirected other
-  IsUndirected (Do h body mark) = StmtsAreUndirected body × (mark ≡ None)
-  IsUndirected (Block d body) = ⊥
-  IsUndirected (Piece body) = ⊥
-  IsUndirected Exit = ⊤
-  IsUndirected Cycle = ⊤
-  IsUndirected Return = ⊤
+  pub is_undirected : Stmt → Bool
+  is_undirected (Assign left right) = true
+  is_undirected (Call x args forward) = not forward
+  is_undirected (If arms other) = arms_undirected arms && otherwise_undirected other
+  is_undirected (Select e cases other) = cases_undirected cases && otherwise_undirected other
+  is_undirected (Do h body mark) = is_none mark && are_undirected body
+  is_undirected (Block d body) = false
+  is_undirected (Piece body) = false
+  is_undirected Exit = true
+  is_undirected Cycle = true
+  is_undirected Return = true
 
-  pub StmtsAreUndirected : Stmts → Type 0
-  StmtsAreUndirected Done = ⊤
-  StmtsAreUndirected (Then s rest) = IsUndirected s × StmtsAreUndirected rest
+  pub are_undirected : Stmts → Bool
+  are_undirected Done = true
+  are_undirected (Then s rest) = is_undirected s && are_undirected rest
 
-  pub ArmsAreUndirected : Arms → Type 0
-  ArmsAreUndirected No_arm = ⊤
-  ArmsAreUndirected (Arm test body rest) = StmtsAreUndirected body × ArmsAreUndirected rest
+  pub arms_undirected : Arms → Bool
+  arms_undirected No_arm = true
+  arms_undirected (Arm test body rest) = are_undirected body && arms_undirected rest
 
-  pub CasesAreUndirected : Cases → Type 0
-  CasesAreUndirected No_case = ⊤
-  CasesAreUndirected (Case ranges body rest) = StmtsAreUndirected body × CasesAreUndirected rest
+  pub cases_undirected : Cases → Bool
+  cases_undirected No_case = true
+  cases_undirected (Case ranges body rest) = are_undirected body && cases_undirected rest
 
-  pub OtherwiseIsUndirected : Otherwise → Type 0
-  OtherwiseIsUndirected Nothing_else = ⊤
-  OtherwiseIsUndirected (Else body) = StmtsAreUndirected body
+  pub otherwise_undirected : Otherwise → Bool
+  otherwise_undirected Nothing_else = true
+  otherwise_undirected (Else body) = are_undirected body
 
--- neither the unit nor its statements have directives
-pub record HasNoDirective (u : Unit) : Type 0 where
-  pub marks : u.marks ≡ []
-  pub body : StmtsAreUndirected u.body
-
--- as it is written: its declarations in three groups, and no directive
-abbrev pub regrouped : Unit → Unit
-regrouped u = record u { decls = written_decls u no_widening; marks = [] }
+abbrev pub IsUndirected : Unit → Type 0
+IsUndirected u = (u.marks ≡ []) × (are_undirected u.body ≡ true)
