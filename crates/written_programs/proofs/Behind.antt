@@ -61,7 +61,7 @@ module _ (mode : Mode) (P : Form → Type 0) where
   marked_left nesting.unmarked h = h
   marked_left (nesting.marked m w) h = h.1
 
-  head_left : {fs rest : List Form} {lines : List Use} {decls : List Decl} {pair mark : List Directive} → Head-part mode fs lines decls pair mark rest → Each fs → Each rest
+  pub head_left : {fs rest : List Form} {lines : List Use} {decls : List Decl} {pair mark : List Directive} → Head-part mode fs lines decls pair mark rest → Each fs → Each rest
   head_left h k = marked_left h.marked (declares_left h.declared (implicit_left h.implicit (uses_left h.used k)))
 
   pub unit_left : {host : Option ℕ} {fs rest : List Form} {x : tree_unit.Unit} → IsUnit mode host fs x rest → Each fs → Each rest

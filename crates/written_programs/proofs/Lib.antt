@@ -10,3 +10,4 @@ mod Behind
 mod Longer
 mod ProgramsWritten
 mod LinesSaid
+mod PlainUnits

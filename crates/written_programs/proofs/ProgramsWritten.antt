@@ -34,7 +34,7 @@ halves (u ∷ us) vs [] h = absurd h
 halves (u ∷ us) vs (t ∷ ts) h =
     let m = halves us vs ts h.2 in record { first = t ∷ m.first; second = m.second; joined = ap (λ x. t ∷ x) m.joined; first_are = (h.0, h.1, m.first_are); second_are = m.second_are }
 
-map_appended : {A B : Type 0} (g : A → B) (xs ys : List A) → map g (xs ++ ys) ≡ map g xs ++ map g ys
+pub map_appended : {A B : Type 0} (g : A → B) (xs ys : List A) → map g (xs ++ ys) ≡ map g xs ++ map g ys
 map_appended g [] ys = refl
 map_appended g (x ∷ xs) ys = ap (λ z. g x ∷ z) (map_appended g xs ys)
 
@@ -102,12 +102,12 @@ record ModuleAgain (number : ℕ) (a : Module) (ts : List plain.Unit) (rest : Li
   lined : Lined rest → Lined forms
   same : map plain_unit trees ≡ ts
 
-record ProgramAgain (m u : ℕ) (ms : List Module) (ts : List plain.Unit) (order : List tree_item.Item) : Type 0 where
-  forms : List Form
-  trees : List tree_unit.Unit
-  nest : Nests_from Target m u forms ms trees order
-  lined : Lined forms
-  same : map plain_unit trees ≡ ts
+pub record ProgramAgain (m u : ℕ) (ms : List Module) (ts : List plain.Unit) (order : List tree_item.Item) : Type 0 where
+  pub forms : List Form
+  pub trees : List tree_unit.Unit
+  pub nest : Nests_from Target m u forms ms trees order
+  pub lined : Lined forms
+  pub same : map plain_unit trees ≡ ts
 
 module _ (mode : Mode) where
   units_again : {host : Option ℕ} {fs rest : List Form} {us : List tree_unit.Unit} → AreUnits mode host fs us rest → (ts : List plain.Unit) → AreReplaced (map plain_unit us) ts → (t : List Form) → UnitsAgain host ts t
@@ -139,7 +139,7 @@ module _ (mode : Mode) where
         same = inside.same;
       }
 
-  program_again : {m u : ℕ} {fs : List Form} {ms : List Module} {us : List tree_unit.Unit} {order : List tree_item.Item} → Nests_from mode m u fs ms us order → AreSaid fs → (ts : List plain.Unit) → AreReplaced (map plain_unit us) ts →
+  pub program_again : {m u : ℕ} {fs : List Form} {ms : List Module} {us : List tree_unit.Unit} {order : List tree_item.Item} → Nests_from mode m u fs ms us order → AreSaid fs → (ts : List plain.Unit) → AreReplaced (map plain_unit us) ts →
       ProgramAgain m u ms ts order
   program_again nesting.no_more k [] h = record { forms = []; trees = []; nest = nesting.no_more; lined = no_lines; same = refl }
   program_again nesting.no_more k (t ∷ ts) h = absurd h
