@@ -8,7 +8,7 @@ use Rattle.courses.specs.Interaction.{Orders}
 use Rattle.courses.specs.Course.{Way, Normal, Course, Give, Put, and_then}
 use Rattle.claw_meaning.specs.Syntax.{Text, Expr, Numeral, Boolean, Name, Reference, Signed, Binary, Paren, Stmts, Done, Then, Assign}
 use Rattle.claw_meaning.specs.Scene.{Scene}
-use Rattle.claw_meaning.specs.Evaluation.{kind_in, settled, shapes, shape_among, value, place, converted, with_exact}
+use Rattle.claw_meaning.specs.Evaluation.{settled, shapes, shape_among, value, place, converted, with_exact}
 use Rattle.claw_meaning.specs.Statements.{assigned, assignment, meanings, then_run}
 use Rattle.column_scalars.specs.Scalars.{IsSum, AreSums, assignments, in_column, wide_sum, wide_assignments}
 use Rattle.column_scalars.specs.Model.{item, integer, ran}

@@ -8,10 +8,12 @@ pub mod Lookups
 pub mod Source
 pub mod Turns
 pub mod Wide
+pub mod Unmarked
 pub mod Agreeing
 pub mod Columnwise
 pub mod MemberCases
 pub mod Naming
+pub mod ModuleVariables
 pub mod WideFrames
 pub mod Slices
 pub mod UnitRuns

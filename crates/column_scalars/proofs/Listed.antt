@@ -6,19 +6,19 @@ use Rattle.std.proofs.lemmas.Bool.{false≢true, and_right}
 use mathlib.Core.Path.{subst}
 use Rattle.fort_tree.specs.declared.unit.Intent.{Intent}
 use Rattle.fort_tree.specs.Intrinsic.{intrinsic_named}
-use Rattle.claw_meaning.specs.Syntax.{Text, Unit}
+use Rattle.claw_meaning.specs.Syntax.{Text, Unit, Program}
 use Rattle.claw_meaning.specs.Evaluation.{is_in}
 use Rattle.claw_meaning.specs.Units.{is_listed, is_column_of, is_column_dummy}
 use Rattle.claw_meaning.specs.Columns.{place_of}
 use Rattle.claw_meaning.specs.Interface.{Widening, widening, is_shared_decl}
 use Rattle.claw_meaning.specs.Erasure.{rank_in}
-use Rattle.column_scalars.specs.Scalars.{Scalars, IsScalars, NoIntrinsics, dummy_decl, source_unit, program_of}
+use Rattle.column_scalars.specs.Scalars.{Scalars, IsScalars, NoIntrinsics, dummy_decl, source_unit}
 use Rattle.column_scalars.proofs.MemberCases.{contains_first, contains_later, contains_none, contains_cases, names_equal, listed_here}
 use Rattle.column_scalars.proofs.Naming.{column_name}
 
--- the widening of a unit of column scalars
-abbrev pub widened : Scalars → Widening
-widened u = widening (program_of (source_unit u)) (source_unit u) (λ x. is_listed u.dummies x)
+-- the widening of a unit of column scalars in a program
+abbrev pub widened : Program → Scalars → Widening
+widened p u = widening p (source_unit u) (λ x. is_listed u.dummies x)
 
 -- a name that is listed is in the list
 pub in_list : (ys : List Text) (x : Text) → list_any (λ y. bytes_eq y x) ys ≡ true → Contains ys x
@@ -49,8 +49,8 @@ no_intrinsic (y ∷ ys) n x t = go (contains_cases y ys x t) (no_intrinsic ys n.
 pub first_place : (u : Scalars) → IsScalars u → (x : Text) → Contains u.dummies x → place_of (source_unit u) x ≡ 0
 first_place u w x t = rw (column_name u w x t).source refl
 
-pub rank_zero : (u : Scalars) → IsScalars u → (x : Text) → Contains u.dummies x → rank_in (program_of (source_unit u)) (source_unit u) x ≡ 0
-rank_zero u w x t = rw (column_name u w x t).source refl
+pub rank_zero : (p : Program) (u : Scalars) → IsScalars u → (x : Text) → Contains u.dummies x → rank_in p (source_unit u) x ≡ 0
+rank_zero p u w x t = rw (column_name u w x t).source refl
 
 -- it isn't shared by the columns
 pub not_shared : (u : Scalars) → IsScalars u → (x : Text) (intent : Intent) → Contains u.dummies x → is_shared_decl (source_unit u) (dummy_decl x intent) ≡ false

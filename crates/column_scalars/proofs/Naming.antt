@@ -4,11 +4,12 @@ use Rattle.std.specs.Str.{bytes_eq}
 use Rattle.std.proofs.lemmas.Bool.{false≢true}
 use Rattle.fort_tree.specs.declared.unit.Intent.{Intent}
 use Rattle.fort_tree.specs.declared.unit.Intent.TheVariants.{In}
-use Rattle.claw_meaning.specs.Syntax.{Text, Decl, Unit}
-use Rattle.claw_meaning.specs.Scope.{Unknown, visible, decl_named}
+use Rattle.claw_meaning.specs.Syntax.{Text, Decl, Unit, Program}
+use Rattle.claw_meaning.specs.Scope.{Unknown, visible, decl_named, unit_within, procedure_of}
 use Rattle.claw_meaning.specs.Units.{is_column_of}
 use Rattle.claw_meaning.specs.Columns.{added_dummy, unknown_name, column_place}
-use Rattle.column_scalars.specs.Scalars.{Scalars, IsScalars, dummy_decl, decls_of, wide_decl, wide_decls, local_decl, source_unit, wide_unit, program_of}
+use Rattle.column_scalars.specs.Scalars.{Scalars, IsScalars, Distinct, dummy_decl, decls_of, wide_decl, wide_decls, local_decl, source_unit, wide_unit, program_of}
+use Rattle.column_scalars.specs.Standing.{StandsIn, DeclareOnce}
 use Rattle.column_scalars.proofs.MemberCases.{contains_first, contains_later, contains_none, contains_cases, same_itself, names_equal, names_apart, listed_here, not_listed}
 
 abbrev pub names : List (Text × Intent) → List Text
@@ -62,18 +63,29 @@ column_name u w x t =
 -- the name of the upper bound
 pub record IsUpperName (u : Scalars) : Type 0 where
   pub wide : decl_named (wide_unit u).decls u.upper ≡ Some (dummy_decl u.upper In)
-  pub seen : visible (program_of (source_unit u)) (source_unit u) u.upper ≡ Unknown
-  pub added : added_dummy (program_of (source_unit u)) (source_unit u) ≡ Some u.upper
   pub place : column_place (source_unit u) u.upper ≡ None
 
 pub upper_name : (u : Scalars) → IsScalars u → IsUpperName u
-upper_name u w =
+upper_name u w = record {
+  wide = rw (same_itself u.upper) refl;
+  place = rw (not_listed u.dummies u.upper w.upper) refl;
+}
+
+-- where it is visible as nothing, it is the added dummy
+pub added_is : (p : Program) (u : Scalars) → visible p (source_unit u) u.upper ≡ Unknown → added_dummy p (source_unit u) ≡ Some u.upper
+added_is p u seen = ap (λ e. unknown_name e u.upper) seen
+
+-- it is, where no external unit has its name
+unseen : (p : Program) (u : Scalars) → IsScalars u → unit_within p None u.upper ≡ None → visible p (source_unit u) u.upper ≡ Unknown
+unseen p u w e =
     let none = undeclared u.declared u.upper (λ t. w.upper (w.declared_dummies u.upper t)) in
-    let no_unit : bytes_eq u.name u.upper ≡ false = names_apart u.name u.upper (λ e. w.upper_unit (sym e)) in
-    let hidden : visible (program_of (source_unit u)) (source_unit u) u.upper ≡ Unknown = rw (none, no_unit) refl in
-    record {
-      wide = rw (same_itself u.upper) refl;
-      seen = hidden;
-      added = ap (λ e. unknown_name e u.upper) hidden;
-      place = rw (not_listed u.dummies u.upper w.upper) refl;
-    }
+    rw none (ap procedure_of e)
+
+pub stands_among : (p : Program) (u : Scalars) → IsScalars u → unit_within p None u.upper ≡ None → Distinct (u.name ∷ map (λ m. m.name) p.modules) → DeclareOnce p.modules → StandsIn p u
+stands_among p u w e names declared = record { upper = unseen p u w e; names = names; declared = declared }
+
+-- as in the program of this unit alone
+pub stands_alone : (u : Scalars) → IsScalars u → StandsIn (program_of (source_unit u)) u
+stands_alone u w =
+    let other : bytes_eq u.name u.upper ≡ false = names_apart u.name u.upper (λ e. w.upper_unit (sym e)) in
+    stands_among (program_of (source_unit u)) u w (rw other refl) (contains_none u.name, tt) tt

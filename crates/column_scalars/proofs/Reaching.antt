@@ -2,11 +2,11 @@
 use Rattle.std.proofs.Common.{◌≡◌, refl, ap, subst, ◌∙◌, List, [], ◌∷◌, ◌++◌, ◌⊎◌, inl, inr, Contains, map, cond, Option, Bool, true, false, not}
 use Rattle.std.specs.List.{filter}
 use Rattle.std.proofs.lemmas.List.Elements.{Contains-append_left, Contains-append_cases}
-use Rattle.claw_meaning.specs.Syntax.{Text, Expr, Name, Assign, Unit}
+use Rattle.claw_meaning.specs.Syntax.{Text, Expr, Name, Assign, Unit, Program}
 use Rattle.claw_meaning.specs.Units.{is_listed, is_column_dummy}
 use Rattle.claw_meaning.specs.Dependence.{Reached, root, led, Varies, called_in, pairs, pairs_in, pairs_of, roots_in, roots_of, do_variables_in}
 use Rattle.claw_meaning.specs.Interface.{AreWide}
-use Rattle.column_scalars.specs.Scalars.{Scalars, IsScalars, AreSums, assignments, source_unit, program_of}
+use Rattle.column_scalars.specs.Scalars.{Scalars, IsScalars, AreSums, assignments, source_unit}
 use Rattle.column_scalars.proofs.MemberCases.{contains_first, contains_later, contains_none, contains_cases, listed_here}
 use Rattle.column_scalars.proofs.Listed.{in_list, column_dummy}
 
@@ -59,25 +59,25 @@ from_reached : (from : List Text) (by : List (Text × Text)) (holds : Text → T
 from_reached from by holds f g x (root r) = f x r
 from_reached from by holds f g x (led y p r) = g (y, x) p
 
-from_root : (u : Scalars) (x : Text) → Contains (roots_of (program_of (source_unit u)) (source_unit u)) x → Contains u.dummies x
-from_root u x t = go (Contains-append_cases (filter (is_column_dummy (source_unit u)) u.dummies) (roots_in (called_in (program_of (source_unit u)) (source_unit u)) (assignments u.assigned)) x t)
+from_root : (p : Program) (u : Scalars) (x : Text) → Contains (roots_of p (source_unit u)) x → Contains u.dummies x
+from_root p u x t = go (Contains-append_cases (filter (is_column_dummy (source_unit u)) u.dummies) (roots_in (called_in p (source_unit u)) (assignments u.assigned)) x t)
   where
-    go : Contains (filter (is_column_dummy (source_unit u)) u.dummies) x ⊎ Contains (roots_in (called_in (program_of (source_unit u)) (source_unit u)) (assignments u.assigned)) x → Contains u.dummies x
+    go : Contains (filter (is_column_dummy (source_unit u)) u.dummies) x ⊎ Contains (roots_in (called_in p (source_unit u)) (assignments u.assigned)) x → Contains u.dummies x
     go (inl h) = in_filter (is_column_dummy (source_unit u)) u.dummies x h
-    go (inr r) = absurd (contains_none x (subst (λ l. Contains l x) (no_roots (called_in (program_of (source_unit u)) (source_unit u)) u.assigned) r))
+    go (inr r) = absurd (contains_none x (subst (λ l. Contains l x) (no_roots (called_in p (source_unit u)) u.assigned) r))
 
-from_pair : (u : Scalars) → IsScalars u → (z : Text × Text) → Contains (pairs_of (program_of (source_unit u)) (source_unit u)) z → Contains u.dummies z.1
-from_pair u w z t =
-    lead u.dummies (called_in (program_of (source_unit u)) (source_unit u)) u.assigned w.assigned z
-    (in_filter (λ pair. not (is_listed (do_variables_in (assignments u.assigned)) pair.1)) (pairs_in (called_in (program_of (source_unit u)) (source_unit u)) [] (assignments u.assigned)) z t)
+from_pair : (p : Program) (u : Scalars) → IsScalars u → (z : Text × Text) → Contains (pairs_of p (source_unit u)) z → Contains u.dummies z.1
+from_pair p u w z t =
+    lead u.dummies (called_in p (source_unit u)) u.assigned w.assigned z
+    (in_filter (λ pair. not (is_listed (do_variables_in (assignments u.assigned)) pair.1)) (pairs_in (called_in p (source_unit u)) [] (assignments u.assigned)) z t)
 
-varies : (u : Scalars) → IsScalars u → (x : Text) → Contains u.dummies x → Varies (program_of (source_unit u)) (source_unit u) x
-varies u w x t =
-    root (Contains-append_left (filter (is_column_dummy (source_unit u)) u.dummies) (roots_in (called_in (program_of (source_unit u)) (source_unit u)) (assignments u.assigned)) x
+varies : (p : Program) (u : Scalars) → IsScalars u → (x : Text) → Contains u.dummies x → Varies p (source_unit u) x
+varies p u w x t =
+    root (Contains-append_left (filter (is_column_dummy (source_unit u)) u.dummies) (roots_in (called_in p (source_unit u)) (assignments u.assigned)) x
     (filtered_in (is_column_dummy (source_unit u)) u.dummies x (column_dummy u w x t) t))
 
-pub dummies_vary : (u : Scalars) → IsScalars u → AreWide (program_of (source_unit u)) (source_unit u) (λ x. is_listed u.dummies x)
-dummies_vary u w x = (
-  (λ h. varies u w x (in_list u.dummies x h)),
-  (λ r. listed_here u.dummies x (from_reached (roots_of (program_of (source_unit u)) (source_unit u)) (pairs_of (program_of (source_unit u)) (source_unit u)) (Contains u.dummies) (from_root u) (from_pair u w) x r)),
+pub dummies_vary : (p : Program) (u : Scalars) → IsScalars u → AreWide p (source_unit u) (λ x. is_listed u.dummies x)
+dummies_vary p u w x = (
+  (λ h. varies p u w x (in_list u.dummies x h)),
+  (λ r. listed_here u.dummies x (from_reached (roots_of p (source_unit u)) (pairs_of p (source_unit u)) (Contains u.dummies) (from_root p u) (from_pair p u w) x r)),
 )

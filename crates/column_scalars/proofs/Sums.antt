@@ -106,6 +106,16 @@ pair_gives op h None q t o s j e = refl
 pair_gives op h (Some v) q t o s j e =
     ending_then q (operated op I4 v) o s j ∙ ap (option_and_then (λ x. ending (operated op I4 v x.answer) o x.store x.next)) e ∙ second_gives op h v t o s j
 
+-- no bound of a section stands in it
+pub said_settles : (c : Scene) (names : List Text) (shown : Text → Expr) → ((k : Sort) (x : Text) → Contains names x → (g : Expr → Course k) → settled c (shown x) g ≡ g (shown x)) → (k : Sort) (e : Expr) → IsSum names e → (g : Expr → Course k) → settled c (said shown e) g ≡ g (said shown e)
+said_settles c names shown h k (Numeral n suffix) t g = refl
+said_settles c names shown h k (Boolean b) t g = refl
+said_settles c names shown h k (Name x) t g = h k x t g
+said_settles c names shown h k (Reference x subs) t g = absurd t
+said_settles c names shown h k (Signed sign e) t g = said_settles c names shown h k e t.1 (λ other. g (Signed sign other))
+said_settles c names shown h k (Binary op a b) t g = said_settles c names shown h k a t.1 (λ left. settled c (said shown b) (λ right. g (Binary op left right))) ∙ said_settles c names shown h k b t.2 (λ right. g (Binary op (said shown a) right))
+said_settles c names shown h k (Paren e) t g = absurd t
+
 module _ (c : Scene) (names : List Text) (shown : Text → Expr) (at : Text → Element) (P : Store → Type 0) (l : Lies c names shown at P) where
   pub sum_kind : (e : Expr) → IsSum names e → kind_in c (said shown e) ≡ I4
   sum_kind (Numeral n None) h = refl
@@ -120,13 +130,7 @@ module _ (c : Scene) (names : List Text) (shown : Text → Expr) (at : Text → 
   sum_kind (Paren e) h = absurd h
 
   pub sum_settles : {k : Sort} (e : Expr) → IsSum names e → (g : Expr → Course k) → settled c (said shown e) g ≡ g (said shown e)
-  sum_settles (Numeral n suffix) h g = refl
-  sum_settles (Boolean b) h g = refl
-  sum_settles (Name x) h g = l.settles x h g
-  sum_settles (Reference x subs) h g = absurd h
-  sum_settles (Signed sign e) h g = sum_settles e h.1 (λ other. g (Signed sign other))
-  sum_settles (Binary op a b) h g = sum_settles a h.1 (λ left. settled c (said shown b) (λ right. g (Binary op left right))) ∙ sum_settles b h.2 (λ right. g (Binary op (said shown a) right))
-  sum_settles (Paren e) h g = absurd h
+  sum_settles {k} e h g = said_settles c names shown (λ m x t f. l.settles {k = m} x t f) k e h g
 
   pub sum_gives : (e : Expr) → IsSum names e → (o : Orders) (s : Store) (j : ℕ) → P s → ending (value c (said shown e) []) o s j ≡ gives (item (λ x. s (at x)) e) s j
   sum_gives (Numeral n suffix) h o s j p = refl

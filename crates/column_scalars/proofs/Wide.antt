@@ -4,21 +4,21 @@ use Rattle.std.proofs.lemmas.Int.{ints}
 use Rattle.std.specs.Option.{option_and_then}
 use Rattle.fort_arith.specs.declared.kind.Kind.TheVariants.{I4}
 use Rattle.fort_arith.specs.declared.op.Op.TheVariants.{Lt}
-use Rattle.fort_arith.specs.Range.{fitted, in_kind, is_whole, least, greatest}
-use Rattle.fort_arith.specs.Operators.{is_arithmetic, is_relation, compared}
+use Rattle.fort_arith.specs.Range.{fitted, in_kind, least, greatest}
+use Rattle.fort_arith.specs.Operators.{compared}
 use Rattle.fort_tree.specs.declared.unit.Intent.TheVariants.{In}
 use Rattle.fort_tree.specs.Intrinsic.{intrinsic_named}
 use Rattle.courses.specs.Element.{Value, Whole, Element, Store}
 use Rattle.courses.specs.Interaction.{Orders}
 use Rattle.courses.specs.Course.{Way, Item, Normal, Returns, Course, Give, and_then}
 use Rattle.courses.specs.Ranges.{wholes}
-use Rattle.claw_meaning.specs.Syntax.{Text, Expr, Name, Binary, Stmts, Done, Then, Return, Head}
+use Rattle.claw_meaning.specs.Syntax.{Text, Expr, Name, Binary, Stmts, Done, Then, Return, Head, Program}
 use Rattle.claw_meaning.specs.Scope.{decl_named}
 use Rattle.claw_meaning.specs.Scene.{Callee, Scene}
 use Rattle.claw_meaning.specs.Evaluation.{kind_in, named, defined, with_whole, with_truth, with_exact, operated, converted}
 use Rattle.claw_meaning.specs.Statements.{meaning, meanings, then_run, chosen, bounds_converted, looped as loop_of, counted, loop, with_scalar, head_evaluated}
 use Rattle.claw_meaning.specs.Units.{Given, scene_of, known_in_unit, known_here, or_number, raised_upper}
-use Rattle.column_scalars.specs.Scalars.{Scalars, IsScalars, NoIntrinsics, wide_unit, program_of, dummy_decl, wide_decl, wide_decls, local_decl, in_column, number, guard, looped, wide_assignments}
+use Rattle.column_scalars.specs.Scalars.{Scalars, IsScalars, NoIntrinsics, wide_unit, dummy_decl, wide_decl, wide_decls, local_decl, in_column, number, guard, looped, wide_assignments}
 use Rattle.column_scalars.specs.Model.{WideDoesSo, scalar_of, cell_of, ran, ran_all}
 use Rattle.column_scalars.proofs.Ends.{ending, ending_then, ended, does_as}
 use Rattle.column_scalars.proofs.Members.{none_is, member_cases}
@@ -29,24 +29,24 @@ use Rattle.column_scalars.proofs.Turns.{all_turns}
 
 -- Names
 
-abbrev wide_scene : Scalars → (Text → Callee) → Given → Scene
-wide_scene u callee given = scene_of (program_of (wide_unit u)) callee (wide_unit u) given
+abbrev pub wide_scene : Program → Scalars → (Text → Callee) → Given → Scene
+wide_scene p u callee given = scene_of p callee (wide_unit u) given
 
 upper_decl : (u : Scalars) → decl_named (wide_unit u).decls u.upper ≡ Some (dummy_decl u.upper In)
 upper_decl u = named_first (dummy_decl u.upper In) (wide_decls u.lower u.upper u.declared ++ local_decl u.id ∷ []) u.upper refl
 
-upper_means : (u : Scalars) (callee : Text → Callee) (given : Given) → (wide_scene u callee given).meant u.upper ≡ integer_of u.name u.upper []
-upper_means u callee given = means (program_of (wide_unit u)) callee (wide_unit u) given u.upper (dummy_decl u.upper In) refl (upper_decl u)
+pub upper_means : (p : Program) (u : Scalars) (callee : Text → Callee) (given : Given) → (wide_scene p u callee given).meant u.upper ≡ integer_of u.name u.upper []
+upper_means p u callee given = means p callee (wide_unit u) given u.upper (dummy_decl u.upper In) refl (upper_decl u)
 
-id_means : (u : Scalars) → IsScalars u → (callee : Text → Callee) (given : Given) → (wide_scene u callee given).meant u.id ≡ integer_of u.name u.id []
-id_means u i callee given =
-    means (program_of (wide_unit u)) callee (wide_unit u) given u.id (local_decl u.id) refl
+pub id_means : (p : Program) (u : Scalars) → IsScalars u → (callee : Text → Callee) (given : Given) → (wide_scene p u callee given).meant u.id ≡ integer_of u.name u.id []
+id_means p u i callee given =
+    means p callee (wide_unit u) given u.id (local_decl u.id) refl
     (named_later (dummy_decl u.upper In) (wide_decls u.lower u.upper u.declared ++ local_decl u.id ∷ []) u.id (λ e. i.apart (sym e))
     ∙ behind_arrays u.lower u.upper u.declared (local_decl u.id ∷ []) u.id (λ h. i.id (i.declared_dummies u.id h))
     ∙ named_first (local_decl u.id) [] u.id refl)
 
-known : (u : Scalars) (given : Given) → known_in_unit (program_of (wide_unit u)) (wide_unit u) given.value u.upper ≡ given.value u.upper
-known u given = ap (λ e. known_here given.value e u.upper) (sees (program_of (wide_unit u)) (wide_unit u) u.upper (dummy_decl u.upper In) refl (upper_decl u))
+known : (p : Program) (u : Scalars) (given : Given) → known_in_unit p (wide_unit u) given.value u.upper ≡ given.value u.upper
+known p u given = ap (λ e. known_here given.value e u.upper) (sees p (wide_unit u) u.upper (dummy_decl u.upper In) refl (upper_decl u))
 
 test_true : (b : Bool) → (b ≡ false → ⊥) → b ≡ true
 test_true true h = refl
@@ -68,14 +68,14 @@ ge_test x y h = test_false (int_lt x y) (λ e. omega (arith, ints))
 not_raised : (lower upper : ℤ) → lower ≤ℤ upper → int_lt upper (lower -ℤ pos 1) ≡ false
 not_raised lower upper h = ge_test upper (lower -ℤ pos 1) (omega (arith, ints))
 
-array_means : (u : Scalars) → IsScalars u → (callee : Text → Callee) (given : Given) (upper : ℤ) → given.value u.upper ≡ Some upper → pos u.lower ≤ℤ upper → (x : Text) → Contains u.dummies x
-    → (wide_scene u callee given).meant x ≡ integer_of u.name x ((pos u.lower, upper) ∷ [])
-array_means u i callee given upper g l x h =
+array_means : (p : Program) (u : Scalars) → IsScalars u → (callee : Text → Callee) (given : Given) (upper : ℤ) → given.value u.upper ≡ Some upper → pos u.lower ≤ℤ upper → (x : Text) → Contains u.dummies x
+    → (wide_scene p u callee given).meant x ≡ integer_of u.name x ((pos u.lower, upper) ∷ [])
+array_means p u i callee given upper g l x h =
     let t = array_decl u.lower u.upper u.declared (local_decl u.id ∷ []) x (i.all_declared x h) in
     let low : ℤ = pos u.lower in
-    means (program_of (wide_unit u)) callee (wide_unit u) given x (wide_decl u.lower u.upper (x, t.0)) refl
+    means p callee (wide_unit u) given x (wide_decl u.lower u.upper (x, t.0)) refl
     (named_later (dummy_decl u.upper In) (wide_decls u.lower u.upper u.declared ++ local_decl u.id ∷ []) x (λ e. i.upper (subst (Contains u.dummies) (sym e) h)) ∙ t.1)
-    ∙ ap (λ k. integer_of u.name x (raised_upper (low, or_number low k) ∷ [])) (known u given ∙ g)
+    ∙ ap (λ k. integer_of u.name x (raised_upper (low, or_number low k) ∷ [])) (known p u given ∙ g)
     ∙ ap (λ b. integer_of u.name x ((low, if b then low -ℤ pos 1 else upper) ∷ [])) (not_raised low upper l)
 
 plain_names : (names : List Text) → NoIntrinsics names → (x : Text) → Contains names x → intrinsic_named x ≡ None
@@ -83,10 +83,10 @@ plain_names [] p x h = absurd (none_is x h)
 plain_names (y ∷ ys) p x h =
     ⊎_elim (λ e. subst (λ z. intrinsic_named z ≡ None) e p.0) (λ k. plain_names ys p.1 x k) (member_cases y ys x h)
 
-wide_arrays : (u : Scalars) → IsScalars u → (callee : Text → Callee) (given : Given) (upper : ℤ) → given.value u.upper ≡ Some upper → pos u.lower ≤ℤ upper → AreArrays (wide_scene u callee given) u.name u.id u.dummies (pos u.lower) upper
-wide_arrays u i callee given upper g l = record {
-  dimension = id_means u i callee given;
-  arrays = array_means u i callee given upper g l;
+wide_arrays : (p : Program) (u : Scalars) → IsScalars u → (callee : Text → Callee) (given : Given) (upper : ℤ) → given.value u.upper ≡ Some upper → pos u.lower ≤ℤ upper → AreArrays (wide_scene p u callee given) u.name u.id u.dummies (pos u.lower) upper
+wide_arrays p u i callee given upper g l = record {
+  dimension = id_means p u i callee given;
+  arrays = array_means p u i callee given upper g l;
   plain = plain_names u.dummies i.plain;
 }
 
@@ -98,14 +98,14 @@ inside_bounds lower upper c a b = go (int_le lower c) (int_le c upper) (le_test 
     go : (p q : Bool) → p ≡ true → q ≡ true → (p && q) && true ≡ true
     go p q e f = rw (e, f)
 
-column_body : (u : Scalars) → IsScalars u → (callee : Text → Callee) (given : Given) (upper : ℤ) → given.value u.upper ≡ Some upper → pos u.lower ≤ℤ upper
+column_body : (p : Program) (u : Scalars) → IsScalars u → (callee : Text → Callee) (given : Given) (upper : ℤ) → given.value u.upper ≡ Some upper → pos u.lower ≤ℤ upper
     → (c : ℤ) → pos u.lower ≤ℤ c → c ≤ℤ upper → (o : Orders) (s : Store) (j : ℕ) → s (scalar_of u.name u.id) ≡ Whole c
-    → ending (meanings (wide_scene u callee given) (wide_assignments u.id u.assigned)) o s j ≡ ended Normal j (ran (cell_of u.name c) u.assigned s)
-column_body u i callee given upper g l c a b o s j p =
-    let scene : Scene = wide_scene u callee given in
+    → ending (meanings (wide_scene p u callee given) (wide_assignments u.id u.assigned)) o s j ≡ ended Normal j (ran (cell_of u.name c) u.assigned s)
+column_body program u i callee given upper g l c a b o s j p =
+    let scene : Scene = wide_scene program u callee given in
     ap (λ q. ending (meanings scene q) o s j) (sym (spelled_wide u.id u.assigned))
     ∙ runs scene u.dummies (in_column u.id) (cell_of u.name c) (λ t. t (scalar_of u.name u.id) ≡ Whole c)
-    (cells_lie scene u.name u.id u.dummies (pos u.lower) upper c (wide_arrays u i callee given upper g l) (inside_bounds (pos u.lower) upper c a b)) u.assigned i.assigned o s j p
+    (cells_lie scene u.name u.id u.dummies (pos u.lower) upper c (wide_arrays program u i callee given upper g l) (inside_bounds (pos u.lower) upper c a b)) u.assigned i.assigned o s j p
 
 -- The head of the loop
 
@@ -182,13 +182,13 @@ guarded c home upper lower high rest m o s j p b e =
     (guard_tests c home upper lower high m o s j p ∙ ap (λ t. ending (chosen t (Give {k = Way} Returns) (Give {k = Way} Normal)) o s j) e)
 
 pub wide_does : (u : Scalars) → IsScalars u → WideDoesSo u
-wide_does u i callee given upper o s j g k p =
-    let c : Scene = wide_scene u callee given in
+wide_does u i program callee given upper o s j g k p =
+    let c : Scene = wide_scene program u callee given in
     let rest : Stmts = looped u.lower u.upper u.id u.assigned in
-    let guards = guarded c u.name u.upper u.lower upper rest (upper_means u callee given) o s j p in
+    let guards = guarded c u.name u.upper u.lower upper rest (upper_means program u callee given) o s j p in
     record {
       none = λ h. does_as Returns (Then (guard u.lower u.upper) rest) c o s j (Some s) (guards true (lt_test upper (pos u.lower) h));
       some = λ h. does_as Normal (Then (guard u.lower u.upper) rest) c o s j (ran_all u.name u.id u.assigned (wholes (pos u.lower) upper) s)
           (guards false (ge_test upper (pos u.lower) h)
-          ∙ looped_runs c u.name u.id u.upper u.lower upper (id_means u i callee given) (upper_means u callee given) i.lower k h u.assigned (column_body u i callee given upper g h) o s j p);
+          ∙ looped_runs c u.name u.id u.upper u.lower upper (id_means program u i callee given) (upper_means program u callee given) i.lower k h u.assigned (column_body program u i callee given upper g h) o s j p);
     }

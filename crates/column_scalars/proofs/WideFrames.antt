@@ -4,7 +4,7 @@ use Rattle.std.proofs.lemmas.Bool.{false≢true}
 use mathlib.Core.Path.{ap₂}
 use Rattle.fort_arith.specs.declared.kind.Kind.{Kind}
 use Rattle.fort_arith.specs.declared.kind.Kind.TheVariants.{I4}
-use Rattle.fort_arith.specs.Range.{in_kind, is_whole}
+use Rattle.fort_arith.specs.Range.{in_kind}
 use Rattle.fort_tree.specs.declared.unit.Intent.TheVariants.{In}
 use Rattle.courses.specs.Element.{Value, Undefined, Whole, Truth}
 use Rattle.courses.specs.Frames.{places}
@@ -12,28 +12,30 @@ use Rattle.claw_meaning.specs.Syntax.{Text, Name, Dimension, Decl, Program}
 use Rattle.claw_meaning.specs.Scope.{decl_named}
 use Rattle.claw_meaning.specs.Scene.{Bounds, Dummy}
 use Rattle.claw_meaning.specs.Units.{dummy_of, raised_upper, known_in_unit}
-use Rattle.claw_meaning.specs.Frames.{Key, Held, Frame, ColumnDimension, given_by_frame, FitsDimensions, FitsWide, FitsDecl, AllFit, AreDefined, IsGiven, FitsDummy, FitDummies, FitModules, WellTyped}
+use Rattle.claw_meaning.specs.Frames.{Key, Held, Frame, ColumnDimension, given_by_frame, FitsDimensions, FitsWide, FitsDecl, AllFit, AreDefined, IsGiven, FitsDummy, FitDummies, FitModules, WellTyped, module_variables}
 use Rattle.claw_meaning.specs.Columns.{column_place, lower_column, upper_column, column_dimension}
-use Rattle.column_scalars.specs.Scalars.{Scalars, IsScalars, dummy_decl, wide_decl, number, source_unit, wide_unit, program_of}
+use Rattle.column_scalars.specs.Scalars.{Scalars, IsScalars, dummy_decl, wide_decl, number, source_unit, wide_unit}
 use Rattle.column_scalars.proofs.MemberCases.{contains_first, contains_later}
 use Rattle.column_scalars.proofs.Naming.{column_name, upper_name}
 
 abbrev pub held : Text → Bounds → List Value → Held
 held x bounds values = record { key = record { of_module = None; name = x }; cells = record { kind = I4; bounds = bounds; values = values } }
 
--- these dummies with their values in all columns, and the upper bound
-abbrev pub frame_of : ℤ × ℤ → List (Text × List Value) → Text → ℤ → Frame
-frame_of b [] upper n = held upper [] (Whole n ∷ []) ∷ []
-frame_of b (d ∷ ds) upper n = held d.0 (b ∷ []) d.1 ∷ frame_of b ds upper n
+-- these dummies with their values in all columns, the upper bound, and variables of modules
+abbrev pub frame_of : ℤ × ℤ → List (Text × List Value) → Text → ℤ → Frame → Frame
+frame_of b [] upper n modules = held upper [] (Whole n ∷ []) ∷ modules
+frame_of b (d ∷ ds) upper n modules = held d.0 (b ∷ []) d.1 ∷ frame_of b ds upper n modules
 
 abbrev pub named_by : List (Text × List Value) → List Text
 named_by ds = map (λ d. d.0) ds
 
-pub record Shape (upper : Text) (xs : List Text) (b : ℤ × ℤ) (wide : Frame) : Type 0 where
+pub record Shape (p : Program) (upper : Text) (xs : List Text) (b : ℤ × ℤ) (wide : Frame) : Type 0 where
   pub cells : List (Text × List Value)
   pub bound : ℤ
   pub names : named_by cells ≡ xs
-  pub whole : wide ≡ frame_of b cells upper bound
+  pub modules : Frame
+  pub whole : wide ≡ frame_of b cells upper bound modules
+  pub others : FitModules p (module_variables p) modules
   pub fits : in_kind I4 bound ≡ true
 
 held_upper : (known : Text → Option ℤ) (x : Text) (key : Key) (kind : Kind) (bounds : Bounds) (values : List Value) → key ≡ record { of_module = None; name = x } → kind ≡ I4 → FitsDimensions known [] bounds → length values ≡ length (places bounds) → AllFit I4 values → AreDefined values → (n : ℤ) × (record { key = key; cells = record { kind = kind; bounds = bounds; values = values } } ≡ held x [] (Whole n ∷ [])) × (in_kind I4 n ≡ true)
@@ -49,10 +51,7 @@ held_wide known x columns d key kind [] values k e f = absurd f
 held_wide known x columns d key kind (b ∷ c ∷ bs) values k e f = absurd f.1
 held_wide known x columns d key kind (b ∷ []) values k e f = λ i. record { key = k i; cells = record { kind = e i; bounds = f.0 i ∷ []; values = values } }
 
-module _ (u : Scalars) (w : IsScalars u) (frame : Frame) (bounds : ℤ × ℤ) where
-  abbrev p : Program
-  p = program_of (wide_unit u)
-
+module _ (p : Program) (u : Scalars) (w : IsScalars u) (frame : Frame) (bounds : ℤ × ℤ) where
   abbrev columns : ColumnDimension
   columns = record { place = column_place (source_unit u); bounds = bounds }
 
@@ -83,15 +82,14 @@ module _ (u : Scalars) (w : IsScalars u) (frame : Frame) (bounds : ℤ × ℤ) w
       let c = subst (λ k. FitsDecl (known_in_unit p (wide_unit u) (given_by_frame frame).value) k bounds (wide_decl u.lower u.upper (x, t.intent)) h.cells) t.place g.1 in
       held_wide (known_in_unit p (wide_unit u) (given_by_frame frame).value) x bounds (record { lower = Some (number u.lower); upper = Some (Name u.upper) }) h.key h.cells.kind h.cells.bounds h.cells.values g.0 c.kind c.bounds
 
-  shape_among : (xs : List Text) → ((x : Text) → Contains xs x → Contains u.dummies x) → (hs : Frame) → FitDummies p (wide_unit u) frame columns (map dummy_here (xs ++ u.upper ∷ [])) hs (FitModules p []) → Shape u.upper xs (raised_upper bounds) hs
+  shape_among : (xs : List Text) → ((x : Text) → Contains xs x → Contains u.dummies x) → (hs : Frame) → FitDummies p (wide_unit u) frame columns (map dummy_here (xs ++ u.upper ∷ [])) hs (FitModules p (module_variables p)) → Shape p u.upper xs (raised_upper bounds) hs
   shape_among [] m [] f = absurd f
-  shape_among [] m (h ∷ g ∷ hs) f = absurd f.1
-  shape_among [] m (h ∷ []) f = let t = upper_entry h f.0 in record { cells = []; bound = t.0; names = refl; whole = ap (λ k. k ∷ []) t.1; fits = t.2 }
+  shape_among [] m (h ∷ hs) f = let t = upper_entry h f.0 in record { cells = []; bound = t.0; names = refl; modules = hs; whole = ap (λ k. k ∷ hs) t.1; others = f.1; fits = t.2 }
   shape_among (x ∷ xs) m [] f = absurd f
   shape_among (x ∷ xs) m (h ∷ hs) f =
       let e = dummy_entry x h (m x (contains_first x x xs refl)) f.0 in
       let t = shape_among xs (λ y t. m y (contains_later x xs y t)) hs f.1 in
-      record { cells = (x, h.cells.values) ∷ t.cells; bound = t.bound; names = ap (λ l. x ∷ l) t.names; whole = ap₂ (λ k l. k ∷ l) e t.whole; fits = t.fits }
+      record { cells = (x, h.cells.values) ∷ t.cells; bound = t.bound; names = ap (λ l. x ∷ l) t.names; modules = t.modules; whole = ap₂ (λ k l. k ∷ l) e t.whole; others = t.others; fits = t.fits }
 
-pub shape_of : (u : Scalars) → IsScalars u → (wide : Frame) → WellTyped (program_of (wide_unit u)) (wide_unit u) (column_dimension (program_of (source_unit u)) (source_unit u) wide) wide → Shape u.upper u.dummies (raised_upper (lower_column (source_unit u), upper_column (program_of (source_unit u)) (source_unit u) wide)) wide
-shape_of u w wide f = shape_among u w wide (lower_column (source_unit u), upper_column (program_of (source_unit u)) (source_unit u) wide) u.dummies (λ x t. t) wide f
+pub shape_of : (p target : Program) (u : Scalars) → IsScalars u → (wide : Frame) → WellTyped target (wide_unit u) (column_dimension p (source_unit u) wide) wide → Shape target u.upper u.dummies (raised_upper (lower_column (source_unit u), upper_column p (source_unit u) wide)) wide
+shape_of p target u w wide f = shape_among target u w wide (lower_column (source_unit u), upper_column p (source_unit u) wide) u.dummies (λ x t. t) wide f

@@ -3,11 +3,12 @@ use Rattle.std.proofs.Common.{◌≡◌, refl, ap, sym, ◌∙◌, List, [], ◌
 use Rattle.std.specs.List.{filter}
 use mathlib.Core.Path.{ap₂}
 use Rattle.fort_tree.specs.declared.unit.Intent.{Intent}
-use Rattle.claw_meaning.specs.Syntax.{Text}
+use Rattle.claw_meaning.specs.Syntax.{Text, Program}
 use Rattle.claw_meaning.specs.Interface as interface
 use Rattle.column_scalars.specs.Scalars.{Scalars, IsScalars, dummy_decl, decls_of, wide_decl, wide_decls, source_unit, wide_unit}
+use Rattle.column_scalars.specs.Standing.{StandsIn}
 use Rattle.column_scalars.proofs.MemberCases.{contains_here, contains_later, listed_here}
-use Rattle.column_scalars.proofs.Naming.{names, upper_name}
+use Rattle.column_scalars.proofs.Naming.{names, added_is}
 use Rattle.column_scalars.proofs.Listed.{widened, first_place, not_shared}
 
 -- these are declarations of dummies
@@ -41,26 +42,26 @@ none_fresh u w (d ∷ ds) h =
     rw (not_shared u w d.0 d.1 t, w.own d.0 t) (none_fresh u w ds (of_others u d ds h))
 
 -- each gains the dimension
-one_wide : (u : Scalars) → IsScalars u → (x : Text) (intent : Intent) → Contains u.dummies x → interface.wide_decl (widened u) (dummy_decl x intent) ≡ wide_decl u.lower u.upper (x, intent)
-one_wide u w x intent t = rw (listed_here u.dummies x t, first_place u w x t) refl
+one_wide : (p : Program) (u : Scalars) → IsScalars u → (x : Text) (intent : Intent) → Contains u.dummies x → interface.wide_decl (widened p u) (dummy_decl x intent) ≡ wide_decl u.lower u.upper (x, intent)
+one_wide p u w x intent t = rw (listed_here u.dummies x t, first_place u w x t) refl
 
-all_wide : (u : Scalars) → IsScalars u → (ds : List (Text × Intent)) → OfDummies u ds → map (interface.wide_decl (widened u)) (decls_of ds) ≡ wide_decls u.lower u.upper ds
-all_wide u w [] h = refl
-all_wide u w (d ∷ ds) h = ap₂ (λ a b. a ∷ b) (one_wide u w d.0 d.1 (of_first u d ds h)) (all_wide u w ds (of_others u d ds h))
+all_wide : (p : Program) (u : Scalars) → IsScalars u → (ds : List (Text × Intent)) → OfDummies u ds → map (interface.wide_decl (widened p u)) (decls_of ds) ≡ wide_decls u.lower u.upper ds
+all_wide p u w [] h = refl
+all_wide p u w (d ∷ ds) h = ap₂ (λ a b. a ∷ b) (one_wide p u w d.0 d.1 (of_first u d ds h)) (all_wide p u w ds (of_others u d ds h))
 
-others_wide : (u : Scalars) → IsScalars u → (ds : List (Text × Intent)) → OfDummies u ds →
-    map (interface.wide_decl (widened u)) (filter (λ d. interface.is_other_decl (source_unit u) d && not (interface.is_fresh d.name)) (decls_of ds))
-    ++ map (interface.wide_decl (widened u)) (filter (λ d. interface.is_other_decl (source_unit u) d && interface.is_fresh d.name) (decls_of ds))
+others_wide : (p : Program) (u : Scalars) → IsScalars u → (ds : List (Text × Intent)) → OfDummies u ds →
+    map (interface.wide_decl (widened p u)) (filter (λ d. interface.is_other_decl (source_unit u) d && not (interface.is_fresh d.name)) (decls_of ds))
+    ++ map (interface.wide_decl (widened p u)) (filter (λ d. interface.is_other_decl (source_unit u) d && interface.is_fresh d.name) (decls_of ds))
     ≡ wide_decls u.lower u.upper ds
-others_wide u w ds h =
-    (λ t. map (interface.wide_decl (widened u)) (all_others u w ds h t) ++ map (interface.wide_decl (widened u)) (none_fresh u w ds h t))
-    ∙ append-nil (map (interface.wide_decl (widened u)) (decls_of ds)) ∙ all_wide u w ds h
+others_wide p u w ds h =
+    (λ t. map (interface.wide_decl (widened p u)) (all_others u w ds h t) ++ map (interface.wide_decl (widened p u)) (none_fresh u w ds h t))
+    ∙ append-nil (map (interface.wide_decl (widened p u)) (decls_of ds)) ∙ all_wide p u w ds h
 
-groups : (u : Scalars) → IsScalars u → interface.written_decls (source_unit u) (widened u) ≡ (wide_unit u).decls
-groups u w =
+groups : (p : Program) (u : Scalars) → IsScalars u → StandsIn p u → interface.written_decls (source_unit u) (widened p u) ≡ (wide_unit u).decls
+groups p u w stands =
     λ t. no_constants u.declared t
-    ++ ((no_shared u w u.declared w.declared_dummies t ++ interface.added_decl ((upper_name u w).added t))
-    ++ (others_wide u w u.declared w.declared_dummies t ++ interface.id_decl (source_unit u) (widened u)))
+    ++ ((no_shared u w u.declared w.declared_dummies t ++ interface.added_decl (added_is p u stands.upper t))
+    ++ (others_wide p u w u.declared w.declared_dummies t ++ interface.id_decl (source_unit u) (widened p u)))
 
-pub decls_written : (u : Scalars) → IsScalars u → (wide_unit u).decls ≡ interface.written_decls (source_unit u) (widened u)
-decls_written u w = sym (groups u w)
+pub decls_written : (p : Program) (u : Scalars) → IsScalars u → StandsIn p u → (wide_unit u).decls ≡ interface.written_decls (source_unit u) (widened p u)
+decls_written p u w stands = sym (groups p u w stands)

@@ -1,3 +1,4 @@
 pub mod Scalars
 pub mod Model
 pub mod Widened
+pub mod Standing

@@ -12,11 +12,11 @@ use Rattle.courses.specs.Element.{Value, Undefined, Whole, Truth, Element, Store
 use Rattle.courses.specs.Interaction.{Orders, answer_of, store_of}
 use Rattle.courses.specs.Course.{Signal, Normal, Returns, line}
 use Rattle.courses.specs.Ranges.{wholes}
-use Rattle.claw_meaning.specs.Syntax.{Text, Expr, Numeral, Boolean, Name, Reference, Signed, Binary, Paren, Stmts}
+use Rattle.claw_meaning.specs.Syntax.{Text, Expr, Numeral, Boolean, Name, Reference, Signed, Binary, Paren, Stmts, Program}
 use Rattle.claw_meaning.specs.Scene.{Callee, Scene}
 use Rattle.claw_meaning.specs.Statements.{meanings, whole_of}
 use Rattle.claw_meaning.specs.Units.{Given, scene_of}
-use Rattle.column_scalars.specs.Scalars.{Scalars, source_unit, wide_unit, program_of}
+use Rattle.column_scalars.specs.Scalars.{Scalars, source_unit, wide_unit}
 
 -- where a name's value lies: in the unit's scalar, or in column c of its array
 abbrev pub scalar_of : Text → Text → Element
@@ -82,23 +82,23 @@ pub record DoesAs (signal : Signal) (statements : Stmts) (c : Scene) (o : Orders
   pub answer : answer_of (line (meanings c statements)) o s j ≡ option_map (λ t. signal) result
   pub store : (t : Store) → result ≡ Some t → store_of (line (meanings c statements)) o s j ≡ t
 
--- the statements of the source, whatever the unit is given
+-- the statements of the source, whatever program the unit stands in and whatever it is given
 abbrev pub SourceDoes : Scalars → Type 0
 SourceDoes u =
-    (callee : Text → Callee) (given : Given) (o : Orders) (s : Store) (j : ℕ) →
-    DoesAs Normal (source_unit u).body (scene_of (program_of (source_unit u)) callee (source_unit u) given) o s j (ran (scalar_of u.name) u.assigned s)
+    (p : Program) (callee : Text → Callee) (given : Given) (o : Orders) (s : Store) (j : ℕ) →
+    DoesAs Normal (source_unit u).body (scene_of p callee (source_unit u) given) o s j (ran (scalar_of u.name) u.assigned s)
 
--- the statements of the wide program, where its added dummy is given and holds `upper`
-pub record WideDoes (u : Scalars) (callee : Text → Callee) (given : Given) (upper : ℤ) (o : Orders) (s : Store) (j : ℕ) : Type 0 where
+-- the statements of the wide unit in a program, where its added dummy is given and holds `upper`
+pub record WideDoes (u : Scalars) (p : Program) (callee : Text → Callee) (given : Given) (upper : ℤ) (o : Orders) (s : Store) (j : ℕ) : Type 0 where
   -- no column
-  pub none : upper <ℤ pos u.lower → DoesAs Returns (wide_unit u).body (scene_of (program_of (wide_unit u)) callee (wide_unit u) given) o s j (Some s)
+  pub none : upper <ℤ pos u.lower → DoesAs Returns (wide_unit u).body (scene_of p callee (wide_unit u) given) o s j (Some s)
   -- the columns in increasing order
-  pub some : pos u.lower ≤ℤ upper → DoesAs Normal (wide_unit u).body (scene_of (program_of (wide_unit u)) callee (wide_unit u) given) o s j (ran_all u.name u.id u.assigned (wholes (pos u.lower) upper) s)
+  pub some : pos u.lower ≤ℤ upper → DoesAs Normal (wide_unit u).body (scene_of p callee (wide_unit u) given) o s j (ran_all u.name u.id u.assigned (wholes (pos u.lower) upper) s)
 
 abbrev pub WideDoesSo : Scalars → Type 0
 WideDoesSo u =
-    (callee : Text → Callee) (given : Given) (upper : ℤ) (o : Orders) (s : Store) (j : ℕ) → given.value u.upper ≡ Some upper → in_kind I4 upper ≡ true → s (scalar_of u.name u.upper) ≡ Whole upper →
-    WideDoes u callee given upper o s j
+    (p : Program) (callee : Text → Callee) (given : Given) (upper : ℤ) (o : Orders) (s : Store) (j : ℕ) → given.value u.upper ≡ Some upper → in_kind I4 upper ≡ true → s (scalar_of u.name u.upper) ≡ Whole upper →
+    WideDoes u p callee given upper o s j
 
 -- each column's store holds what the wide store holds in that column
 abbrev pub AreColumns : Scalars → List ℤ → Store → (ℤ → Store) → Type 0
