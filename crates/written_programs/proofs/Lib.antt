@@ -1,6 +1,8 @@
 mod DeclaredAlone
 mod PlainStatements
 mod FirstLevels
+mod FreeNames
+mod DefineNames
 mod SaidForms
 mod NoDirectives
 mod BodiesWritten
