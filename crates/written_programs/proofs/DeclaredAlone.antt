@@ -14,6 +14,8 @@ use Rattle.fort_grammar.specs.Token.{token_class}
 use Rattle.fort_stmt.specs.Form as f
 use Rattle.fort_stmt.specs.Form.{IsWords, IsKind, IsType, IsBound, IsBoundOption, IsDimension, IsShape, IsOwnShape, IsInitial, IsEntity, IsEntities, IsConstant, IsConstants, IsIntent, IsIntentAttribute, IsDimensionAttribute, IsAttributes, IsDeclaration, declared}
 use Rattle.fort_stmt.specs.declared.value.Entity.{Entity}
+use Rattle.written_programs.specs.WideUnits0.{IsFreeName}
+use Rattle.written_programs.proofs.FreeNames.{token_free}
 
 -- Tokens that are this before any others
 pub record Alone {A : Type 0} (R : List Token → List Token → A → Type 0) (a : A) : Type 0 where
@@ -142,3 +144,30 @@ declarations_alone (f.constants {k = k} {d = d} c p b t h i j e) =
 -- a type before FUNCTION, with the name of the result
 pub result_alone : {w z : List Token} {k : Kind} (n : Token) → IsType w z k → token_class n ≡ class.Name → IsAlone (declared k None [] (record { name = lowercase n.text; at = n.at; shape = []; value = None }))
 result_alone n t h = one_variable (type_alone t) (record { put = λ y. y; is = λ y. f.no_attribute }) (record { put = λ y. n ∷ y; is = λ y. f.entity n h f.no_shape })
+
+-- ---- Names
+
+-- a declaration's name is free
+abbrev pub HasFreeName : Decl → Type 0
+HasFreeName d = IsFreeName d.name
+
+abbrev EntityFree : Entity → Type 0
+EntityFree e = IsFreeName e.name
+
+entity_free : {w z : List Token} {d : Entity} → IsEntity w z d → EntityFree d
+entity_free (f.entity t h s) = token_free t h
+
+constant_free : {w z : List Token} {d : Entity} → IsConstant w z d → EntityFree d
+constant_free (f.constant t q h k i) = token_free t h
+
+entities_free : {w z : List Token} {l : List Entity} → IsEntities w z l → AllByRecursion EntityFree l
+entities_free (f.first_entity e) = (entity_free e, tt)
+entities_free (f.next_entity {l = l} {d = d} c es h e) = each_append EntityFree l (d ∷ []) (entities_free es) (entity_free e, tt)
+
+constants_free : {w z : List Token} {l : List Entity} → IsConstants w z l → AllByRecursion EntityFree l
+constants_free (f.first_constant e) = (constant_free e, tt)
+constants_free (f.next_constant {l = l} {d = d} c es h e) = each_append EntityFree l (d ∷ []) (constants_free es) (constant_free e, tt)
+
+pub declarations_free : {w z : List Token} {l : List Decl} → IsDeclaration w z l → AllByRecursion HasFreeName l
+declarations_free (f.variables {k = k} {i = i} {l = l} {d = d} t a e) = each_mapped EntityFree HasFreeName (declared k i l) d (λ x h. h) (entities_free e)
+declarations_free (f.constants {k = k} {d = d} c p b t h i j e) = each_mapped EntityFree HasFreeName (declared k None []) d (λ x h. h) (constants_free e)

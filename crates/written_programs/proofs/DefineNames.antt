@@ -20,8 +20,8 @@ use Rattle.written_programs.specs.Scalars0.{define}
 use Rattle.written_programs.specs.WideUnits0.{IsFreeName}
 use Rattle.written_programs.proofs.FreeNames.{item_name, free_of_mark}
 
-pub DefineOk : Directive → Type 0
-DefineOk d = (id : plain.Text) (lower : ℕ) (upper : plain.Text) → plain_directive d ≡ define id lower upper → IsFreeName id × IsFreeName upper
+pub DefinesFreeNames : Directive → Type 0
+DefinesFreeNames d = (id : plain.Text) (lower : ℕ) (upper : plain.Text) → plain_directive d ≡ define id lower upper → IsFreeName id × IsFreeName upper
 
 one_item : {A : Type 0} {x y : A} {xs ys : List A} → x ∷ xs ≡ y ∷ ys → x ≡ y
 one_item e = cc
@@ -44,20 +44,20 @@ upper_free : {t : Token} {b : Expr} (x : plain.Text) → Upper t b → plain_exp
 upper_free {t = t} {b = b} x (c.number e) h = absurd (number_no_name t.at (number_of t.text) b x e h)
 upper_free {t = t} x (c.name {id = id} e) h = subst IsFreeName (same_name (sym (plain_name id t.at) ∙ h)) (free_of_mark (item_name word.Define t id t.whole e).0)
 
-defines_ok : {at : Place} {tokens rest : List Token} {d : Directive} → Defines at tokens rest d → DefineOk d
-unfolding DefineOk
+defines_ok : {at : Place} {tokens rest : List Token} {d : Directive} → Defines at tokens rest d → DefinesFreeNames d
+unfolding DefinesFreeNames
 defines_ok (c.defines {id = name_read} {lower = low} {upper = up} name open_mark colon bound close e f l g u h) id lower upper k =
     let names = one_item (ap (λ (x : plain.Directive). x.names) k) in
     (subst IsFreeName names (free_of_mark (item_name word.Define name name_read name.whole e).0), upper_free upper u (some_item (ap (λ (x : plain.Directive). x.upper) k)))
 
-other_ok : (at : Place) (form : DirectiveWord) (given : _) → is_of_parts form ≡ true → DefineOk (directive_of at form given)
-unfolding DefineOk
+other_ok : (at : Place) (form : DirectiveWord) (given : _) → is_of_parts form ≡ true → DefinesFreeNames (directive_of at form given)
+unfolding DefinesFreeNames
 other_ok at form given e id lower upper k = absurd (true≢false (sym e ∙ ap is_of_parts (ap (λ (x : plain.Directive). x.word) k)))
 
-asks_ok : {at : Place} {form : DirectiveWord} {tokens : List Token} {ds : List Directive} → Asks at form tokens ds → AllByRecursion DefineOk ds
+asks_ok : {at : Place} {form : DirectiveWord} {tokens : List Token} {ds : List Directive} → Asks at form tokens ds → AllByRecursion DefinesFreeNames ds
 asks_ok (c.dimension d) = (defines_ok d, tt)
 asks_ok {at = at} (c.both {given = given} d b q) = (defines_ok d, (other_ok at word.Parallelize given refl, tt))
 asks_ok {at = at} (c.of_parts {form = form} {given = given} e q w) = (other_ok at form given e, tt)
 
-pub line_defines : {at : Place} {tokens : List Token} {ds : List Directive} → IsLine at tokens ds → AllByRecursion DefineOk ds
+pub line_defines : {at : Place} {tokens : List Token} {ds : List Directive} → IsLine at tokens ds → AllByRecursion DefinesFreeNames ds
 line_defines (c.asked b a) = asks_ok a

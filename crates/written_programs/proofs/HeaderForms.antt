@@ -20,10 +20,12 @@ use Rattle.fort_grammar.specs.Token.{token_class, text_class}
 use Rattle.fort_expr.specs.Words.{front_place}
 use Rattle.fort_stmt.specs.Form as f
 use Rattle.fort_stmt.specs.Form.{IsForm, IsAction, IsAssignment, IsFunction, IsResult, IsType, Header, IsDeclaration, named_of, declared}
-use Rattle.claw_meaning.specs.Plain.{plain_decl}
+use Rattle.claw_meaning.specs.Plain.{plain_decl, plain_expr}
 use Rattle.claw_meaning.specs.Syntax as plain
 use Rattle.sound_programs.specs.Forms.{is_entity}
-use Rattle.written_programs.proofs.DeclaredAlone.{IsAlone, declarations_alone, result_alone}
+use Rattle.written_programs.proofs.DeclaredAlone.{IsAlone, HasFreeName, declarations_alone, declarations_free, result_alone}
+use Rattle.written_programs.specs.WideUnits0.{IsFreeName, IsDerived}
+use Rattle.written_programs.proofs.FreeNames.{token_free}
 use Rattle.written_programs.proofs.FirstLevels
 use Rattle.written_programs.proofs.SaidForms.{IsSaid}
 
@@ -51,7 +53,9 @@ CanDeclareResult n (Some p) = CanDeclare (result_decl n p.0)
 
 -- What a header says otherwise
 abbrev pub SaidOtherwise : Statement-F Statement → Type 0
-SaidOtherwise (Statement-F.Declare l) = AllByRecursion IsAlone l
+SaidOtherwise (Statement-F.Declare l) = AllByRecursion IsAlone l × AllByRecursion HasFreeName l
+SaidOtherwise (Statement-F.Subroutine name dummies) = IsFreeName name.name
+SaidOtherwise (Statement-F.Assign left right) = IsDerived (plain_expr right)
 SaidOtherwise (Statement-F.Function prefix name dummies result) = IsSaid (Statement-F.Function None name dummies result) × CanDeclareResult (result_named name result) prefix
 SaidOtherwise _ = ⊤
 
@@ -59,7 +63,8 @@ otherwise_as : (s : Statement) (level : Statement-F Statement) → out-Statement
 otherwise_as s level e h = subst SaidOtherwise (sym e) h
 
 assignment_otherwise : {w z : List Token} {s : Statement} → IsAssignment w z s → SaidOtherwise (out-Statement s)
-assignment_otherwise (f.assign {a = a} {b = b} e t h i) = otherwise_as (statement.Assign a b) (Statement-F.Assign a b) (FirstLevels.out_assign a b) tt
+assignment_otherwise (f.assign {x = x} {z = z} {a = a} {b = b} e t h i) =
+    otherwise_as (statement.Assign a b) (Statement-F.Assign a b) (FirstLevels.out_assign a b) (record { tokens = x; rest = z; tree = b; derive = i; same = refl })
 
 action_otherwise : {w z : List Token} {s : Statement} → IsAction w z s → SaidOtherwise (out-Statement s)
 action_otherwise (f.assignment a) = assignment_otherwise a
@@ -108,7 +113,7 @@ form_otherwise (f.end_bare t h) e = otherwise_as (statement.End None None) (Stat
 form_otherwise (f.end_module {n = n} d k) e = otherwise_as (statement.End (Some word.Module) n) (Statement-F.End (Some word.Module) n) (FirstLevels.out_end (Some word.Module) n) tt
 form_otherwise (f.end_subroutine {n = n} d k) e = otherwise_as (statement.End (Some word.Subroutine) n) (Statement-F.End (Some word.Subroutine) n) (FirstLevels.out_end (Some word.Subroutine) n) tt
 form_otherwise (f.end_function {n = n} d k) e = otherwise_as (statement.End (Some word.Function) n) (Statement-F.End (Some word.Function) n) (FirstLevels.out_end (Some word.Function) n) tt
-form_otherwise (f.subroutine {l = l} s n a b d) e = otherwise_as (statement.Subroutine (named_of n) l) (Statement-F.Subroutine (named_of n) l) (FirstLevels.out_subroutine (named_of n) l) tt
+form_otherwise (f.subroutine {l = l} s n a b d) e = otherwise_as (statement.Subroutine (named_of n) l) (Statement-F.Subroutine (named_of n) l) (FirstLevels.out_subroutine (named_of n) l) (token_free n b)
 form_otherwise (f.function {w = w} {h = h} t a d) e = function_otherwise None h t a (subst (λ x. IsFunction w x h) e d) tt
 form_otherwise (f.prefixed {w = w} {x = x} {k = k} {h = h} t i a d) e = function_otherwise (Some (k, front_place w)) h t a (subst (λ y. IsFunction x y h) e d) (declare_result i (function_token d))
 form_otherwise (f.use_all u n a b) e =
@@ -116,7 +121,7 @@ form_otherwise (f.use_all u n a b) e =
 form_otherwise (f.use_only {l = l} u n c o k a b d g h i) e =
     let line : Use = record { name = lowercase n.text; only = Some l; at = n.at } in otherwise_as (statement.Using line) (Statement-F.Using line) (FirstLevels.out_using line) tt
 form_otherwise (f.implicit_none i n a b) e = otherwise_as statement.ImplicitNone Statement-F.ImplicitNone FirstLevels.out_implicit tt
-form_otherwise (f.declare {l = l} d) e = otherwise_as (statement.Declare l) (Statement-F.Declare l) (FirstLevels.out_declare l) (declarations_alone d)
+form_otherwise (f.declare {l = l} d) e = otherwise_as (statement.Declare l) (Statement-F.Declare l) (FirstLevels.out_declare l) (declarations_alone d, declarations_free d)
 form_otherwise (f.action a) e = action_otherwise a
 form_otherwise (f.if_then {e = test} i p q t a b d c g) e = otherwise_as (statement.IfThen test) (Statement-F.IfThen test) (FirstLevels.out_if_then test) tt
 form_otherwise (f.if_action {x = x} {e = test} {s = s} i p q a b d c g) e =

@@ -1,8 +1,8 @@
-mod DeclaredAlone
 mod PlainStatements
 mod FirstLevels
 mod FreeNames
 mod DefineNames
+mod DeclaredAlone
 mod SaidForms
 mod NoDirectives
 mod BodiesWritten

@@ -1,6 +1,5 @@
 -- Forms that lines have, and the lines of forms.
 use Rattle.std.proofs.Common.{◌≡◌, List, [], ◌∷◌, ◌++◌, false, refl, sym, ap, ◌∙◌, subst}
-use Rattle.std.specs.Prelude.{⊤}
 use Rattle.std.specs.List.{AllByRecursion}
 use Rattle.fort_tree.specs.declared.statement.Statement.{Statement, out-Statement}
 use Rattle.fort_tree.specs.declared.statement.Statement.TheOpen.{Statement-F}
@@ -11,6 +10,7 @@ use Rattle.sound_programs.specs.Forms.{Form, Says, Directs}
 use Rattle.fort_stmt.specs.Form.{IsStatement}
 use Rattle.written_programs.specs.FormLines0 as line
 use Rattle.written_programs.specs.FormLines0.{TokenLine, HaveForms}
+use Rattle.written_programs.proofs.DefineNames.{DefinesFreeNames}
 
 -- tokens are a statement of this level
 pub record IsSaid (level : Statement-F Statement) : Type 0 where
@@ -22,10 +22,10 @@ pub record IsSaid (level : Statement-F Statement) : Type 0 where
 abbrev pub place_said : {level : Statement-F Statement} → IsSaid level → Place
 place_said s = front_place s.tokens
 
--- nothing is asked of a directive
+-- tokens are the statement, and the names of a `define` are free
 abbrev pub IsSaidForm : Form → Type 0
 IsSaidForm (Says at level) = IsSaid level
-IsSaidForm (Directs d) = ⊤
+IsSaidForm (Directs d) = DefinesFreeNames d
 
 abbrev pub AreSaid : List Form → Type 0
 AreSaid forms = AllByRecursion IsSaidForm forms

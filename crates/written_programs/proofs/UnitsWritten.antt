@@ -144,7 +144,7 @@ module _ (mode : Mode) where
   declared_again nesting.no_more_decls e h = record { behind = h; alone = tt; again = λ t. record { forms = t; nest = nesting.no_more_decls; lined = λ l. l } }
   declared_again (nesting.declares {line = line} {decls = decls} w d) e h =
       let a = declared_again d e h.1 in
-      record { behind = a.behind; alone = line_alone line decls (said_otherwise h.0) w a.alone; again = λ t. line_again w h.0 (a.again t) }
+      record { behind = a.behind; alone = line_alone line decls (said_otherwise h.0).0 w a.alone; again = λ t. line_again w h.0 (a.again t) }
   declared_again (nesting.directs_decl w d) e h = absurd (some_none e)
 
   marked_said : {fs rest : List Form} {mark : List Directive} → Marked mode fs mark rest → AreSaid fs → AreSaid rest
