@@ -20,10 +20,10 @@ use Rattle.written_programs.specs.Scalars0.{define}
 use Rattle.written_programs.specs.WideUnits0.{IsFreeName}
 use Rattle.written_programs.proofs.FreeNames.{item_name, free_of_mark}
 
-pub DefinesFreeNames : Directive → Type 0
+unfoldable pub DefinesFreeNames : Directive → Type 0
 DefinesFreeNames d = (id : plain.Text) (lower : ℕ) (upper : plain.Text) → plain_directive d ≡ define id lower upper → IsFreeName id × IsFreeName upper
 
-one_item : {A : Type 0} {x y : A} {xs ys : List A} → x ∷ xs ≡ y ∷ ys → x ≡ y
+pub one_item : {A : Type 0} {x y : A} {xs ys : List A} → x ∷ xs ≡ y ∷ ys → x ≡ y
 one_item e = cc
 
 more_items : {A : Type 0} {x y : A} {xs ys : List A} → x ∷ xs ≡ y ∷ ys → xs ≡ ys

@@ -13,3 +13,4 @@ mod Longer
 mod ProgramsWritten
 mod LinesSaid
 mod PlainUnits
+mod ScalarUnits
