@@ -12,5 +12,7 @@ mod Behind
 mod Longer
 mod ProgramsWritten
 mod LinesSaid
+mod EachUnit
 mod PlainUnits
 mod ScalarUnits
+mod WideUnits

@@ -12,55 +12,30 @@ use Rattle.fort_tree.specs.declared.unit.Unit as tree_unit
 use Rattle.fort_units.specs.Program.{mode_of, IsProgram}
 use Rattle.claw_meaning.specs.Plain.{plain_file, plain_module, plain_item, plain_unit}
 use Rattle.claw_meaning.specs.Syntax as plain
-use Rattle.sound_programs.specs.Forms.{Form}
-use Rattle.sound_programs.specs.Nesting as nesting
-use Rattle.sound_programs.specs.Nesting.{IsUnit, AreUnits, Contained, IsModule, Nests_from}
 use Rattle.written_programs.specs.FormLines0.{IsPrintableFile}
 use Rattle.written_programs.specs.Regrouped.{regrouped}
 use Rattle.written_programs.specs.Undirected.{IsUndirected}
 use Rattle.written_programs.specs.Writable.{CanBeWritten, AreReplaced}
-use Rattle.written_programs.proofs.Behind.{head_left, unit_left, module_left}
-use Rattle.written_programs.proofs.DeclaredAlone.{each_append}
+use Rattle.written_programs.proofs.EachUnit.{IsSaidUnit, all_units, a_unit}
 use Rattle.written_programs.proofs.LinesSaid.{program_said}
 use Rattle.written_programs.proofs.ProgramsWritten.{ProgramAgain, program_again, map_appended}
-use Rattle.written_programs.proofs.SaidForms.{IsSaidForm, AreSaid}
 use Rattle.written_programs.proofs.UnitsWritten.{unit_written}
 
 -- ---- Each unit
 
 -- where it has no directives, it can be written
-abbrev pub Regroups : tree_unit.Unit → Type 0
-Regroups x = IsUndirected (plain_unit x) → CanBeWritten (regrouped (plain_unit x))
-
-module _ (mode : Mode) where
-  units_regroup : {host : Option ℕ} {fs rest : List Form} {us : List tree_unit.Unit} → AreUnits mode host fs us rest → AreSaid fs → AllByRecursion Regroups us
-  units_regroup nesting.no_more_units k = tt
-  units_regroup (nesting.a_unit u us) k = (λ n. unit_written mode u n k, units_regroup us (unit_left mode IsSaidForm u k))
-
-  contained_regroup : {number : ℕ} {fs rest : List Form} {us : List tree_unit.Unit} → Contained mode number fs us rest → AreSaid fs → AllByRecursion Regroups us
-  contained_regroup nesting.contains_none k = tt
-  contained_regroup (nesting.contains us) k = units_regroup us k.1
-
-  module_regroup : {number : ℕ} {fs rest : List Form} {a : Module} {us : List tree_unit.Unit} → IsModule mode number fs a us rest → AreSaid fs → AllByRecursion Regroups us
-  module_regroup (nesting.a_module h c e) k = contained_regroup c (head_left mode IsSaidForm h k.1)
-
-  program_regroup : {m u : ℕ} {fs : List Form} {ms : List Module} {us : List tree_unit.Unit} {order : List tree_item.Item} → Nests_from mode m u fs ms us order → AreSaid fs → AllByRecursion Regroups us
-  program_regroup nesting.no_more k = tt
-  program_regroup (nesting.unit_first a others) k = (λ n. unit_written mode a n k, program_regroup others (unit_left mode IsSaidForm a k))
-  program_regroup (nesting.module_first {us = us} {vs = vs} a others) k = each_append Regroups us vs (module_regroup a k) (program_regroup others (module_left mode IsSaidForm a k))
-
 abbrev CanRegroup : plain.Unit → Type 0
 CanRegroup u = IsUndirected u → CanBeWritten (regrouped u)
 
-mapped_regroup : (us : List tree_unit.Unit) → AllByRecursion Regroups us → AllByRecursion CanRegroup (map plain_unit us)
-mapped_regroup [] h = tt
-mapped_regroup (u ∷ us) h = (h.0, mapped_regroup us h.1)
+can_regroup : (mode : Mode) {u : plain.Unit} → IsSaidUnit mode u → CanRegroup u
+can_regroup mode s = subst CanRegroup s.same (λ n. unit_written mode s.nest n s.said)
 
-all_regroup : {lines : List Line} {file : File} → IsProgram lines file → AllByRecursion CanRegroup (plain_file file).units
-all_regroup {lines = lines} {file = file} p = mapped_regroup file.units (program_regroup (mode_of lines) p.nests (program_said p))
+all_regroup : (mode : Mode) (us : List plain.Unit) → AllByRecursion (IsSaidUnit mode) us → AllByRecursion CanRegroup us
+all_regroup mode [] h = tt
+all_regroup mode (u ∷ us) h = (can_regroup mode h.0, all_regroup mode us h.1)
 
 pub plain_unit_written : (lines : List Line) (file : File) (u : plain.Unit) → IsProgram lines file → Contains (plain_file file).units u → IsUndirected u → CanBeWritten (regrouped u)
-plain_unit_written lines file u p c = All-contains CanRegroup (plain_file file).units u (All-from_recursion CanRegroup (plain_file file).units (all_regroup p)) c
+plain_unit_written lines file u p c = can_regroup (mode_of lines) (a_unit u p c)
 
 -- ---- The program
 
@@ -89,4 +64,4 @@ pub undirected_program_written : (lines : List Line) (file written : File) → I
 undirected_program_written lines file written p n e =
     let us = (plain_file file).units in
     program_written lines file written p (ap (λ (q : plain.Program). q.modules) e) (ap (λ (q : plain.Program). q.order) e)
-    (subst (AreReplaced us) (sym (ap (λ (q : plain.Program). q.units) e)) (all_replaced us (all_regroup p) (recursion_from_All IsUndirected us n)))
+    (subst (AreReplaced us) (sym (ap (λ (q : plain.Program). q.units) e)) (all_replaced us (all_regroup (mode_of lines) us (all_units p)) (recursion_from_All IsUndirected us n)))
