@@ -16,3 +16,4 @@ mod EachUnit
 mod PlainUnits
 mod ScalarUnits
 mod WideUnits
+mod UnitByUnit

@@ -1,5 +1,6 @@
 -- A program each of whose units can be written can be written.
 use Rattle.std.proofs.Common.{◌≡◌, ℕ, suc, ◌+◌, length, List, [], ◌∷◌, ◌++◌, Option, None, Some, map, refl, sym, ap, ◌∙◌, subst}
+use Rattle.std.specs.List.{AllZip}
 use Rattle.fort_tree.specs.declared.choice.Mode.{Mode}
 use Rattle.fort_tree.specs.declared.choice.Mode.TheVariants.{Target}
 use Rattle.fort_tree.specs.declared.statement.Statement.TheOpen.{Statement-F}
@@ -11,7 +12,7 @@ use Rattle.claw_meaning.specs.Syntax as plain
 use Rattle.sound_programs.specs.Forms.{Form, Says}
 use Rattle.sound_programs.specs.Nesting as nesting
 use Rattle.sound_programs.specs.Nesting.{IsUnit, AreUnits, Contained, IsModule, Nests_from, Ends}
-use Rattle.written_programs.specs.Writable.{CanBeWritten, AreReplaced}
+use Rattle.written_programs.specs.Writable.{CanBeWritten, CanReplace}
 use Rattle.written_programs.proofs.Behind.{unit_left, contained_left, module_left}
 use Rattle.written_programs.proofs.HeaderForms.{say_end}
 use Rattle.written_programs.proofs.Longer.{unit_longer}
@@ -25,27 +26,27 @@ record Halves (us vs ts : List plain.Unit) : Type 0 where
   first : List plain.Unit
   second : List plain.Unit
   joined : first ++ second ≡ ts
-  first_are : AreReplaced us first
-  second_are : AreReplaced vs second
+  first_are : AllZip CanReplace us first
+  second_are : AllZip CanReplace vs second
 
-halves : (us vs ts : List plain.Unit) → AreReplaced (us ++ vs) ts → Halves us vs ts
+halves : (us vs ts : List plain.Unit) → AllZip CanReplace (us ++ vs) ts → Halves us vs ts
 halves [] vs ts h = record { first = []; second = ts; joined = refl; first_are = tt; second_are = h }
 halves (u ∷ us) vs [] h = absurd h
 halves (u ∷ us) vs (t ∷ ts) h =
-    let m = halves us vs ts h.2 in record { first = t ∷ m.first; second = m.second; joined = ap (λ x. t ∷ x) m.joined; first_are = (h.0, h.1, m.first_are); second_are = m.second_are }
+    let m = halves us vs ts h.1 in record { first = t ∷ m.first; second = m.second; joined = ap (λ x. t ∷ x) m.joined; first_are = (h.0, m.first_are); second_are = m.second_are }
 
 pub map_appended : {A B : Type 0} (g : A → B) (xs ys : List A) → map g (xs ++ ys) ≡ map g xs ++ map g ys
 map_appended g [] ys = refl
 map_appended g (x ∷ xs) ys = ap (λ z. g x ∷ z) (map_appended g xs ys)
 
 -- as many trees
-same_count : (xs ys : List tree_unit.Unit) (ts : List plain.Unit) → AreReplaced (map plain_unit xs) ts → map plain_unit ys ≡ ts → length ys ≡ length xs
+same_count : (xs ys : List tree_unit.Unit) (ts : List plain.Unit) → AllZip CanReplace (map plain_unit xs) ts → map plain_unit ys ≡ ts → length ys ≡ length xs
 same_count [] [] ts h e = refl
 same_count [] (y ∷ ys) [] h e = absurd cc
 same_count [] (y ∷ ys) (t ∷ ts) h e = absurd h
 same_count (x ∷ xs) ys [] h e = absurd h
 same_count (x ∷ xs) [] (t ∷ ts) h e = absurd cc
-same_count (x ∷ xs) (y ∷ ys) (t ∷ ts) h e = ap suc (same_count xs ys ts h.2 (more_items e))
+same_count (x ∷ xs) (y ∷ ys) (t ∷ ts) h e = ap suc (same_count xs ys ts h.1 (more_items e))
   where
     more_items : {A : Type 0} {a b : A} {k l : List A} → a ∷ k ≡ b ∷ l → k ≡ l
     more_items e = cc
@@ -110,21 +111,21 @@ pub record ProgramAgain (m u : ℕ) (ms : List Module) (ts : List plain.Unit) (o
   pub same : map plain_unit trees ≡ ts
 
 module _ (mode : Mode) where
-  units_again : {host : Option ℕ} {fs rest : List Form} {us : List tree_unit.Unit} → AreUnits mode host fs us rest → (ts : List plain.Unit) → AreReplaced (map plain_unit us) ts → (t : List Form) → UnitsAgain host ts t
+  units_again : {host : Option ℕ} {fs rest : List Form} {us : List tree_unit.Unit} → AreUnits mode host fs us rest → (ts : List plain.Unit) → AllZip CanReplace (map plain_unit us) ts → (t : List Form) → UnitsAgain host ts t
   units_again nesting.no_more_units [] h t = record { forms = t; trees = []; nest = nesting.no_more_units; lined = λ l. l; same = refl }
   units_again nesting.no_more_units (x ∷ ts) h t = absurd h
   units_again (nesting.a_unit u us) [] h t = absurd h
   units_again {host = host} (nesting.a_unit u us) (x ∷ ts) h t =
-      let m = units_again us ts h.2 t in next_unit m (unit_again host x (h.0 ∙ host_is mode u) h.1 m.forms)
+      let m = units_again us ts h.1 t in next_unit m (unit_again host x (h.0.0 ∙ host_is mode u) h.0.1 m.forms)
 
-  contained_again : {number : ℕ} {fs rest : List Form} {us : List tree_unit.Unit} → Contained mode number fs us rest → AreSaid fs → (ts : List plain.Unit) → AreReplaced (map plain_unit us) ts → (t : List Form) → ContainedAgain number ts t
+  contained_again : {number : ℕ} {fs rest : List Form} {us : List tree_unit.Unit} → Contained mode number fs us rest → AreSaid fs → (ts : List plain.Unit) → AllZip CanReplace (map plain_unit us) ts → (t : List Form) → ContainedAgain number ts t
   contained_again nesting.contains_none k [] h t = record { forms = t; trees = []; nest = nesting.contains_none; lined = λ l. l; same = refl }
   contained_again nesting.contains_none k (x ∷ ts) h t = absurd h
   contained_again (nesting.contains us) k ts h t =
       let m = units_again us ts h t in
       record { forms = Says (place_said k.0) Statement-F.Contains ∷ m.forms; trees = m.trees; nest = nesting.contains m.nest; lined = λ l. say k.0 (m.lined l); same = m.same }
 
-  module_again : {number : ℕ} {fs rest : List Form} {a : Module} {us : List tree_unit.Unit} → IsModule mode number fs a us rest → AreSaid fs → (ts : List plain.Unit) → AreReplaced (map plain_unit us) ts → (t : List Form) → ModuleAgain number a ts t
+  module_again : {number : ℕ} {fs rest : List Form} {a : Module} {us : List tree_unit.Unit} → IsModule mode number fs a us rest → AreSaid fs → (ts : List plain.Unit) → AllZip CanReplace (map plain_unit us) ts → (t : List Form) → ModuleAgain number a ts t
   module_again (nesting.a_module {name = name} h c e) k ts r t =
       let s = k.0 in
       let head = head_again mode h refl k.1 in
@@ -139,14 +140,14 @@ module _ (mode : Mode) where
         same = inside.same;
       }
 
-  pub program_again : {m u : ℕ} {fs : List Form} {ms : List Module} {us : List tree_unit.Unit} {order : List tree_item.Item} → Nests_from mode m u fs ms us order → AreSaid fs → (ts : List plain.Unit) → AreReplaced (map plain_unit us) ts →
+  pub program_again : {m u : ℕ} {fs : List Form} {ms : List Module} {us : List tree_unit.Unit} {order : List tree_item.Item} → Nests_from mode m u fs ms us order → AreSaid fs → (ts : List plain.Unit) → AllZip CanReplace (map plain_unit us) ts →
       ProgramAgain m u ms ts order
   program_again nesting.no_more k [] h = record { forms = []; trees = []; nest = nesting.no_more; lined = no_lines; same = refl }
   program_again nesting.no_more k (t ∷ ts) h = absurd h
   program_again (nesting.unit_first a others) k [] h = absurd h
   program_again (nesting.unit_first a others) k (t ∷ ts) h =
-      let p = program_again others (unit_left mode IsSaidForm a k) ts h.2 in
-      let b = unit_again None t (h.0 ∙ host_is mode a) h.1 p.forms in
+      let p = program_again others (unit_left mode IsSaidForm a k) ts h.1 in
+      let b = unit_again None t (h.0.0 ∙ host_is mode a) h.0.1 p.forms in
       record {
         forms = b.forms;
         trees = b.tree ∷ p.trees;
@@ -155,7 +156,7 @@ module _ (mode : Mode) where
         same = ap (λ x. x ∷ map plain_unit p.trees) b.same ∙ ap (λ x. t ∷ x) p.same;
       }
   program_again {m = m} {u = u} {ms = _ ∷ ms} {order = _ ∷ order} (nesting.module_first {us = us} {vs = vs} first others) k ts h =
-      let w = halves (map plain_unit us) (map plain_unit vs) ts (subst (λ x. AreReplaced x ts) (map_appended plain_unit us vs) h) in
+      let w = halves (map plain_unit us) (map plain_unit vs) ts (subst (λ x. AllZip CanReplace x ts) (map_appended plain_unit us vs) h) in
       let p = program_again others (module_left mode IsSaidForm first k) w.second w.second_are in
       let b = module_again first k w.first w.first_are p.forms in
       let count = same_count us b.trees w.first w.first_are b.same in
