@@ -1,5 +1,5 @@
 -- What holds of each of the forms that nest holds of those that are left.
-use Rattle.std.proofs.Common.{List, [], ◌∷◌, Option, ℕ}
+use Rattle.std.proofs.Common.{List, Option, ℕ}
 use Rattle.std.specs.List.{AllByRecursion}
 use Rattle.fort_tree.specs.declared.choice.Mode.{Mode}
 use Rattle.fort_tree.specs.declared.stmt.Arm.{Arm}

@@ -1,5 +1,5 @@
 -- Statements without directives nest in a target text by the same statements of tokens.
-use Rattle.std.proofs.Common.{◌≡◌, ℕ, List, [], ◌∷◌, ◌++◌, Option, None, Some, Bool, true, false, map, option_map, refl, sym, ap, ◌∙◌, subst}
+use Rattle.std.proofs.Common.{◌≡◌, List, [], ◌∷◌, Option, None, Some, true, false, map, option_map, refl, sym, ap, ◌∙◌, subst}
 use Rattle.std.specs.Prelude.{IsTrue}
 use Rattle.std.specs.List.{list_all}
 use Rattle.std.proofs.lemmas.Bool.{true≢false}
@@ -15,9 +15,9 @@ use Rattle.fort_tree.specs.declared.stmt.Head.{Head}
 use Rattle.fort_tree.specs.declared.stmt.Range.{Range}
 use Rattle.fort_tree.specs.declared.stmt.Stmt.{Stmt}
 use Rattle.fort_tree.specs.declared.stmt.Stmt.TheVariants as tree
-use Rattle.claw_meaning.specs.Plain.{plain_expr, plain_stmt, plain_stmts, plain_subs, plain_directive, plain_head, plain_range, arms_of, cases_of, otherwise}
+use Rattle.claw_meaning.specs.Plain.{plain_expr, plain_stmt, plain_stmts, plain_directive, plain_head, plain_range, arms_of, cases_of, otherwise}
 use Rattle.claw_meaning.specs.Syntax as plain
-use Rattle.sound_programs.specs.Forms.{Form, Says, Directs, is_range}
+use Rattle.sound_programs.specs.Forms.{Form, Says, is_range}
 use Rattle.sound_programs.specs.Nesting as nesting
 use Rattle.sound_programs.specs.Nesting.{Inside, in_loop, arm, case, Simple, Body, One, Arms, Cases}
 use Rattle.written_programs.proofs.NoDirectives.{Undirected, StmtsAreUndirected, ArmsAreUndirected, CasesAreUndirected, OtherwiseIsUndirected}

@@ -1,5 +1,5 @@
 -- Each declaration of a line is one by itself: its type, its attributes and its entity alone are a line.
-use Rattle.std.proofs.Common.{◌≡◌, ℕ, List, [], ◌∷◌, ◌++◌, Option, None, Some, map, refl, sym, ap, ◌∙◌, subst}
+use Rattle.std.proofs.Common.{◌≡◌, List, [], ◌∷◌, ◌++◌, Option, None, map}
 use Rattle.std.specs.List.{AllByRecursion}
 use Rattle.fort_arith.specs.declared.kind.Kind.{Kind}
 use Rattle.fort_tree.specs.declared.expr.Expr.{Expr}

@@ -2,7 +2,7 @@
 use Rattle.std.proofs.Common.{◌≡◌, ℕ, List, [], ◌∷◌, Bool, true, false, cond, ◌&&◌, ◌||◌, Option, None, Some, refl, sym, ap, ◌∙◌, subst, inl, inr}
 use Rattle.std.specs.Prelude.{option_and_then}
 use Rattle.std.specs.Str.{bytes_eq}
-use Rattle.std.proofs.lemmas.Bool.{cond-true, cond-false, and_parts, cases_Bool, true≢false, false≢true}
+use Rattle.std.proofs.lemmas.Bool.{cond-true, cond-false, and_parts, cases_Bool, false≢true}
 use Rattle.std.proofs.lemmas.Slice.Eq.{bytes_eq-Decides}
 use Rattle.fort_tree.specs.declared.statement.Token.{Token}
 use Rattle.fort_tree.specs.declared.stmt.DirectiveWord.{DirectiveWord}
@@ -16,7 +16,6 @@ use Rattle.fort_expr.specs.Expression as g
 use Rattle.fort_expr.proofs.Names.{referred-name}
 use Rattle.claw_lines.specs.Items.{name_text, unless_taken, free_item}
 use Rattle.claw_lines.specs.Words.{is_taken, is_reserved}
-use Rattle.claw_meaning.specs.Syntax as plain
 use Rattle.written_programs.specs.WideUnits0.{IsFreeName}
 
 -- ---- Tokens of statements

@@ -1,10 +1,9 @@
 -- What the forms of a header say can be said otherwise: declarations one by one, and a FUNCTION without its type.
-use Rattle.std.proofs.Common.{◌≡◌, ℕ, List, [], ◌∷◌, ◌++◌, Option, None, Some, Bool, true, false, map, refl, sym, ap, ◌∙◌, subst}
+use Rattle.std.proofs.Common.{◌≡◌, List, [], ◌∷◌, Option, None, Some, refl, sym, ap, subst}
 use Rattle.std.specs.Prelude.{⊤, IsTrue, codes}
 use Rattle.std.specs.List.{AllByRecursion}
 use Rattle.fort_arith.specs.declared.kind.Kind.{Kind}
 use Rattle.fort_tree.specs.declared.place.Place.{Place}
-use Rattle.fort_tree.specs.declared.expr.Expr.{Expr}
 use Rattle.fort_tree.specs.declared.statement.EndWord.TheVariants as word
 use Rattle.fort_tree.specs.declared.statement.Statement.{Statement, out-Statement}
 use Rattle.fort_tree.specs.declared.statement.Statement.TheOpen.{Statement-F}

@@ -1,5 +1,5 @@
 -- Lines of a program say its forms.
-use Rattle.std.proofs.Common.{◌≡◌, List, [], ◌∷◌, ◌++◌, refl, sym, ap, ◌∙◌, map}
+use Rattle.std.proofs.Common.{◌≡◌, List, [], ◌∷◌, refl, map}
 use Rattle.std.specs.List.{AllByRecursion}
 use Rattle.fort_tree.specs.declared.fault.Fault.{Fault}
 use Rattle.fort_tree.specs.declared.statement.Line.{Line}
@@ -9,7 +9,7 @@ use Rattle.fort_units.specs.declared.item.Item.{Item}
 use Rattle.fort_units.specs.Passing.{faults}
 use Rattle.fort_units.specs.Program as program
 use Rattle.fort_units.specs.Program.{HasLine, nothing, whole, faulty, unread, HasLines, no_line, a_line, mode_of, IsProgram}
-use Rattle.sound_programs.specs.Forms.{Form, Says, Directs}
+use Rattle.sound_programs.specs.Forms.{Form, Directs}
 use Rattle.written_programs.proofs.DeclaredAlone.{each_append}
 use Rattle.written_programs.proofs.DefineNames.{DefinesFreeNames, line_defines}
 use Rattle.written_programs.proofs.SaidForms.{IsSaidForm, AreSaid}

@@ -1,5 +1,5 @@
 -- A unit that nests from forms nests from them before any others, which it leaves.
-use Rattle.std.proofs.Common.{List, [], ◌∷◌, ◌++◌, Option, ℕ}
+use Rattle.std.proofs.Common.{List, ◌++◌, Option, ℕ}
 use Rattle.fort_tree.specs.declared.choice.Mode.{Mode}
 use Rattle.fort_tree.specs.declared.stmt.Arm.{Arm}
 use Rattle.fort_tree.specs.declared.stmt.Case.{Case}

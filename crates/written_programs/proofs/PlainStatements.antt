@@ -1,5 +1,5 @@
 -- The plain tree of each form of a statement.
-use Rattle.std.proofs.Common.{◌≡◌, List, Option, None, Some, Bool, false, map, option_map, sym, ap, ◌∙◌, codes}
+use Rattle.std.proofs.Common.{◌≡◌, List, Option, None, Some, Bool, map, option_map, sym, ap, ◌∙◌}
 use Rattle.fort_tree.specs.declared.place.Place.{Place}
 use Rattle.fort_tree.specs.declared.expr.Expr.{Expr}
 use Rattle.fort_tree.specs.declared.expr.Sub.{Sub}

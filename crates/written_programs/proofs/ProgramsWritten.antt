@@ -1,5 +1,5 @@
 -- A program each of whose units can be written can be written.
-use Rattle.std.proofs.Common.{◌≡◌, ℕ, suc, ◌+◌, length, List, [], ◌∷◌, ◌++◌, Option, None, Some, map, refl, sym, ap, ◌∙◌, subst}
+use Rattle.std.proofs.Common.{◌≡◌, ℕ, suc, ◌+◌, length, List, [], ◌∷◌, ◌++◌, Option, None, map, refl, sym, ap, ◌∙◌, subst}
 use Rattle.std.specs.List.{AllZip}
 use Rattle.fort_tree.specs.declared.choice.Mode.{Mode}
 use Rattle.fort_tree.specs.declared.choice.Mode.TheVariants.{Target}
@@ -7,16 +7,16 @@ use Rattle.fort_tree.specs.declared.statement.Statement.TheOpen.{Statement-F}
 use Rattle.fort_tree.specs.declared.unit.Item as tree_item
 use Rattle.fort_tree.specs.declared.unit.Module.{Module}
 use Rattle.fort_tree.specs.declared.unit.Unit as tree_unit
-use Rattle.claw_meaning.specs.Plain.{plain_module, plain_unit}
+use Rattle.claw_meaning.specs.Plain.{plain_unit}
 use Rattle.claw_meaning.specs.Syntax as plain
 use Rattle.sound_programs.specs.Forms.{Form, Says}
 use Rattle.sound_programs.specs.Nesting as nesting
 use Rattle.sound_programs.specs.Nesting.{IsUnit, AreUnits, Contained, IsModule, Nests_from, Ends}
 use Rattle.written_programs.specs.Writable.{CanBeWritten, CanReplace}
-use Rattle.written_programs.proofs.Behind.{unit_left, contained_left, module_left}
+use Rattle.written_programs.proofs.Behind.{unit_left, module_left}
 use Rattle.written_programs.proofs.HeaderForms.{say_end}
 use Rattle.written_programs.proofs.Longer.{unit_longer}
-use Rattle.written_programs.proofs.SaidForms.{IsSaid, IsSaidForm, AreSaid, Lined, no_lines, lined_appended, place_said, say}
+use Rattle.written_programs.proofs.SaidForms.{IsSaidForm, AreSaid, Lined, no_lines, lined_appended, place_said, say}
 use Rattle.written_programs.proofs.UnitsWritten.{head_again, target_head, end_form, end_fits}
 
 -- ---- Lists

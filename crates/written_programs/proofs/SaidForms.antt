@@ -1,5 +1,5 @@
 -- Forms that lines have, and the lines of forms.
-use Rattle.std.proofs.Common.{◌≡◌, List, [], ◌∷◌, ◌++◌, false, refl, sym, ap, ◌∙◌, subst}
+use Rattle.std.proofs.Common.{◌≡◌, List, [], ◌∷◌, ◌++◌, false, subst}
 use Rattle.std.specs.List.{AllByRecursion}
 use Rattle.fort_tree.specs.declared.statement.Statement.{Statement, out-Statement}
 use Rattle.fort_tree.specs.declared.statement.Statement.TheOpen.{Statement-F}

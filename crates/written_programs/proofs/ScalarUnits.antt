@@ -1,5 +1,5 @@
 -- What a source says of a unit of column scalars lets its names and sums be written.
-use Rattle.std.proofs.Common.{◌≡◌, ℕ, suc, arith, List, [], ◌∷◌, ◌++◌, Option, None, Some, Bool, true, false, map, refl, sym, ap, ◌∙◌, subst, Contains}
+use Rattle.std.proofs.Common.{◌≡◌, ℕ, suc, arith, List, [], ◌∷◌, ◌++◌, Option, None, Some, true, false, map, refl, sym, ap, ◌∙◌, subst, Contains}
 use Rattle.std.specs.List.{AllByRecursion}
 use Rattle.std.proofs.lemmas.List.Elements.{All-from_recursion, All-contains}
 use Rattle.fort_tree.specs.declared.choice.Mode.{Mode}
@@ -11,7 +11,7 @@ use Rattle.fort_tree.specs.declared.unit.Unit as tree_unit
 use Rattle.fort_tree.specs.declared.unit.Use.{Use}
 use Rattle.claw_meaning.specs.Plain.{plain_stmt, plain_stmts, plain_decl, plain_unit, plain_directive}
 use Rattle.claw_meaning.specs.Syntax as plain
-use Rattle.sound_programs.specs.Forms.{Form, Says, Directs}
+use Rattle.sound_programs.specs.Forms.{Form}
 use Rattle.sound_programs.specs.Nesting as nesting
 use Rattle.sound_programs.specs.Nesting.{Inside, Body, Uses, Implicit, Declares, Marked, Head-part, IsUnit}
 use Rattle.written_programs.specs.Scalars0.{Scalars, IsScalars, AreSums, source_unit, decls_of, assignments}

@@ -18,8 +18,8 @@ use Rattle.fort_tree.specs.declared.unit.Use.{Use}
 use Rattle.claw_meaning.specs.Interface.{written_decls, no_widening, id_decl, integer_decl, is_constant_decl, is_shared_decl, is_other_decl, is_fresh, wide_decl}
 use Rattle.claw_meaning.specs.Plain.{plain_decl, plain_directive, plain_stmts, plain_unit, plain_use}
 use Rattle.claw_meaning.specs.Syntax as plain
-use Rattle.claw_meaning.specs.Units.{directive_of, is_word_define, is_word_parallelize, is_column_unit}
-use Rattle.sound_programs.specs.Forms.{Form, Says, Directs, is_entity}
+use Rattle.claw_meaning.specs.Units.{directive_of, is_word_define, is_word_parallelize}
+use Rattle.sound_programs.specs.Forms.{Form, Says, is_entity}
 use Rattle.sound_programs.specs.Nesting as nesting
 use Rattle.sound_programs.specs.Nesting.{Uses, Implicit, Declares, Marked, Head-part, Ends, IsUnit, Body, in_unit}
 use Rattle.written_programs.specs.Regrouped.{regrouped}

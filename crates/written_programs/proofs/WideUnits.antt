@@ -1,6 +1,5 @@
 -- A unit of column scalars can be written for all columns, beside other units.
-use Rattle.std.proofs.Common.{◌≡◌, ℕ, zero, suc, ◌<◌, arith, List, [], ◌∷◌, Option, None, Some, map, length, slice_index_or, refl, sym, ap, ◌∙◌, subst, Contains}
-use Rattle.fort_tree.specs.declared.choice.Mode.{Mode}
+use Rattle.std.proofs.Common.{◌≡◌, ℕ, zero, suc, ◌<◌, arith, List, [], ◌∷◌, None, map, length, slice_index_or, refl, ap, ◌∙◌, subst, Contains}
 use Rattle.fort_tree.specs.declared.choice.Mode.TheVariants.{Target}
 use Rattle.fort_tree.specs.declared.statement.Line.{Line}
 use Rattle.fort_tree.specs.declared.unit.File.{File}
@@ -17,7 +16,7 @@ use Rattle.sound_programs.specs.Nesting.{IsUnit, Nests_from}
 use Rattle.written_programs.specs.Scalars0.{Scalars, IsScalars, source_unit, wide_unit, program_of}
 use Rattle.written_programs.specs.WideUnits0.{AreWritable, WideUnitsPrintable}
 use Rattle.written_programs.specs.Writable.{CanBeWritten}
-use Rattle.written_programs.proofs.EachUnit.{IsSaidUnit, a_unit}
+use Rattle.written_programs.proofs.EachUnit.{a_unit}
 use Rattle.written_programs.proofs.ScalarUnits.{unit_ok}
 
 -- ---- A file of one unit

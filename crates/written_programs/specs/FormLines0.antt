@@ -1,4 +1,4 @@
-use Rattle.std.specs.Prelude.{ℕ, ◌≡◌, Bool, true, false, List, [], ◌∷◌}
+use Rattle.std.specs.Prelude.{◌≡◌, Bool, true, false, List, [], ◌∷◌}
 use Rattle.fort_tree.specs.declared.choice.Mode.TheVariants.{Target}
 use Rattle.fort_tree.specs.declared.unit.File.{File}
 use Rattle.fort_tree.specs.declared.statement.Statement.{Statement, out-Statement}

@@ -1,18 +1,18 @@
 -- Units of column scalars: every dummy is a default INTEGER scalar and a column dummy, and every statement assigns a sum of
 -- products of dummies and numbers to a dummy. What such a unit is for all columns.
-use Rattle.std.specs.Prelude.{◌≡◌, ◌≤◌, ℕ, List, [], ◌∷◌, ◌++◌, map, length, Option, Some, None, Bool, true, false, ◌||◌, ⊤}
+use Rattle.std.specs.Prelude.{◌≡◌, ◌≤◌, ℕ, List, [], ◌∷◌, ◌++◌, map, Some, None, false, ⊤}
 use Rattle.std.specs.List.{Contains}
 use Rattle.fort_arith.specs.declared.kind.Kind.TheVariants.{I4}
 use Rattle.fort_arith.specs.declared.op.Op.{Op}
-use Rattle.fort_arith.specs.declared.op.Op.TheVariants.{Pow, Mul, Div, Add, Sub, Eq, Ne, Lt, Le, Gt, Ge, And, Or, Eqv, Neqv}
+use Rattle.fort_arith.specs.declared.op.Op.TheVariants.{Mul, Add, Sub, Lt}
 use Rattle.fort_tree.specs.declared.expr.Unary.{Unary}
 use Rattle.fort_tree.specs.declared.expr.Unary.TheVariants.{Plus, Minus, Not}
 use Rattle.fort_tree.specs.declared.unit.Intent.{Intent}
-use Rattle.fort_tree.specs.declared.unit.Intent.TheVariants.{In, Out, InOut}
+use Rattle.fort_tree.specs.declared.unit.Intent.TheVariants.{In}
 use Rattle.fort_tree.specs.declared.stmt.DirectiveWord.TheVariants.{Define, Parallelize}
 use Rattle.fort_tree.specs.Intrinsic.{intrinsic_named}
 use Rattle.claw_meaning.specs.Interface.{is_fresh}
-use Rattle.claw_meaning.specs.Syntax.{Text, Expr, Numeral, Boolean, Name, Reference, Signed, Binary, Paren, Subscripts, No_more, At, Dimension, Decl, Directive, Head, Stmt, Assign, If, Do, Return, Stmts, Done, Then, Arms, No_arm, Arm, Otherwise, Nothing_else, Unit, Program, Item, A_unit}
+use Rattle.claw_meaning.specs.Syntax.{Text, Expr, Numeral, Boolean, Name, Reference, Signed, Binary, Paren, No_more, At, Decl, Directive, Stmt, Assign, If, Do, Return, Stmts, Done, Then, No_arm, Arm, Nothing_else, Unit, Program, A_unit}
 
 -- The source
 

@@ -1,6 +1,9 @@
-//! What the compiler writes of units without columns can be read again.
+//! That what is written of a program unit by unit can be read again.
 //!
-//! The functions here run nothing. Each carries a law in its contract.
+//! A unit without directives is written as it is, with its declarations one by one and in their groups, and a unit of column scalars for all columns. The functions here
+//! run nothing. Each carries a law in its contract.
 #![tactic(auto)]
 
-pub fn nothing() {}
+mod laws;
+
+pub use laws::{plain_units_can_be_written, programs_can_be_written};

@@ -1,0 +1,23 @@
+//! Laws of programs that are written unit by unit.
+
+ghost use Rattle.std.specs.Prelude.{◌≡◌, List};
+ghost use Rattle.std.specs.List.{All, Contains};
+ghost use Rattle.fort_tree.specs.declared.statement.Line.{Line};
+ghost use Rattle.fort_tree.specs.declared.unit.File.{File};
+ghost use Rattle.fort_units.specs.Program.{IsProgram};
+ghost use Rattle.claw_meaning.specs.Plain.{plain_file};
+ghost use Rattle.claw_meaning.specs.Syntax.{Unit};
+ghost use Rattle.written_programs.specs.FormLines0.{IsPrintableFile};
+ghost use Rattle.written_programs.specs.Regrouped.{regrouped};
+ghost use Rattle.written_programs.specs.Undirected.{IsUndirected};
+ghost use Rattle.written_programs.specs.Writable.{CanBeWritten, CanReplace, IsWrittenAs, UnitByUnit, all_regrouped};
+
+/// A unit of a program that has no directives can be written with its declarations one by one and in their groups.
+pub fn plain_units_can_be_written()
+    ensures { (lines : List Line) (source : File) (u : Unit) → IsProgram lines source → Contains (plain_file source).units u → IsUndirected u → CanBeWritten (regrouped u) }
+{}
+
+/// What has a program's modules, in its order, and in the place of each unit one that can be written, can be written.
+pub fn programs_can_be_written()
+    ensures { (lines : List Line) (source written : File) → IsProgram lines source → UnitByUnit CanReplace (plain_file source) (plain_file written) → IsPrintableFile written }
+{}
