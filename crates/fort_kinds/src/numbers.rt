@@ -3,10 +3,9 @@ ghost use Rattle.std.specs.Prelude.{◌≡◌};
 ghost use Rattle.fort_arith.specs.Range.{in_kind as in_kind_test};
 ghost use Rattle.sound_programs.specs.Placed.{first as first_place};
 ghost use Rattle.sound_programs.specs.Placing.{placed_expr};
-ghost use Rattle.sound_programs.specs.KindFaults.{written_number as written, is_number_in as number_test, is_truth as truth_test, is_value_of as value_test, case_value as case_number};
+ghost use Rattle.sound_programs.specs.KindFaults.{written_number as written, is_number_in as number_test, is_truth as truth_test, is_value_of as value_test, case_value as case_number, integer_constant};
 ghost use Rattle.claw_meaning.specs.Plain.{plain_decl};
 ghost use Rattle.claw_meaning.specs.Scope.{Constant};
-ghost use Rattle.claw_meaning.specs.Units.{constant_whole};
 ghost use Rattle.fort_names.specs.Sights.{means};
 
 use fort_arith::limits_of;
@@ -100,8 +99,11 @@ pub fn is_value_of(kind: Kind, expr: &Expr) -> bool
 
 /// The value of an INTEGER PARAMETER that is written as a number.
 fn value_of_decl(decl: &Decl) -> Option<i128>
-    ensures { result ≡ constant_whole (Constant (plain_decl decl.now)) }
+    ensures { result ≡ integer_constant (Constant (plain_decl decl.now)) }
 {
+    if !decl.kind.is_whole() {
+        return None;
+    }
     match &decl.value {
         None => None,
         Some(value) => written_number(value),
@@ -109,7 +111,7 @@ fn value_of_decl(decl: &Decl) -> Option<i128>
 }
 
 fn value_of_name(sight: &Sight, name: &Name) -> Option<i128>
-    ensures { result ≡ constant_whole (means sight.now name.now) }
+    ensures { result ≡ integer_constant (means sight.now name.now) }
 {
     match sight.meaning(name) {
         Meaning::Constant(decl) => value_of_decl(decl),

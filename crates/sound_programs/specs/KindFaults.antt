@@ -27,6 +27,11 @@ use Rattle.sound_programs.specs.Scopes.{Scope, Of_unit, Of_module, scopes, name_
 use Rattle.sound_programs.specs.Walks.{Step, Assigns, Calls, Tests, Chooses, Repeats, steps_of, parts, parts_of, single_subscripts, section_bounds, in_head, bounds_in, sites, Actual, actuals}
 use Rattle.sound_programs.specs.Kinding.{kind, is_integer, is_logical, kind_named_by}
 
+-- the number of an INTEGER PARAMETER
+abbrev pub integer_constant : Entity → Option ℤ
+integer_constant (Constant d) = if is_whole d.kind then constant_whole (Constant d) else None
+integer_constant other = None
+
 -- Literals
 
 -- a literal whose number, taken without a sign before it, isn't in its kind
@@ -208,7 +213,7 @@ module _ (entity : Text → Entity) where
 
   -- The value of a case: a number that is written, or that of an INTEGER PARAMETER
   abbrev pub case_value : Expr → Option ℤ
-  case_value (Name x at) = constant_whole (entity x)
+  case_value (Name x at) = integer_constant (entity x)
   case_value (Numeral n suffix at) = written_number (Numeral n suffix at)
   case_value (Signed sign e at) = written_number (Signed sign e at)
   case_value other = None

@@ -1,0 +1,13 @@
+pub mod Alike
+pub mod Parts
+pub mod Trees
+pub mod Declared
+pub mod Seeing
+pub mod Entering
+pub mod Running
+pub mod Interfaces
+pub mod Grouping
+pub mod Marked
+pub mod Naming
+pub mod Building
+pub mod Combining
