@@ -16,7 +16,7 @@ use Rattle.claw_lines.specs.Words.{number_of}
 use Rattle.claw_meaning.specs.Plain.{plain_expr, plain_directive}
 use Rattle.claw_meaning.specs.Syntax as plain
 use Rattle.claw_meaning.proofs.PlainTrees.{plain_number, plain_name}
-use Rattle.written_programs.specs.Scalars0.{define}
+use Rattle.column_scalars.specs.Scalars.{define}
 use Rattle.written_programs.specs.WideUnits0.{IsFreeName}
 use Rattle.written_programs.proofs.FreeNames.{item_name, free_of_mark}
 

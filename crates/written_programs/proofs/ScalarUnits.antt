@@ -14,7 +14,8 @@ use Rattle.claw_meaning.specs.Syntax as plain
 use Rattle.sound_programs.specs.Forms.{Form}
 use Rattle.sound_programs.specs.Nesting as nesting
 use Rattle.sound_programs.specs.Nesting.{Inside, Body, Uses, Implicit, Declares, Marked, Head-part, IsUnit}
-use Rattle.written_programs.specs.Scalars0.{Scalars, IsScalars, AreSums, source_unit, decls_of, assignments}
+use Rattle.column_scalars.proofs.Members.{first_is, later_is}
+use Rattle.column_scalars.specs.Scalars.{Scalars, IsScalars, AreSums, source_unit, decls_of, assignments}
 use Rattle.written_programs.specs.WideUnits0.{IsFreeName, IsDerived, AreWritable}
 use Rattle.written_programs.proofs.DeclaredAlone.{HasFreeName, each_append}
 use Rattle.written_programs.proofs.DefineNames.{DefinesFreeNames, one_item}
@@ -24,12 +25,6 @@ use Rattle.written_programs.proofs.SaidForms.{IsSaidForm}
 
 more_items : {A : Type 0} {x y : A} {xs ys : List A} → x ∷ xs ≡ y ∷ ys → xs ≡ ys
 more_items e = cc
-
-first_is : {A : Type 0} (x : A) (xs : List A) → Contains (x ∷ xs) x
-first_is x xs = (0, omega arith, refl)
-
-later_is : {A : Type 0} (y : A) (xs : List A) (x : A) → Contains xs x → Contains (y ∷ xs) x
-later_is y xs x h = let l = h.1 in (suc h.0, omega arith, h.2)
 
 -- ---- Heads
 

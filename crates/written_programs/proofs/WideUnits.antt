@@ -13,7 +13,7 @@ use Rattle.claw_meaning.specs.Syntax as plain
 use Rattle.sound_programs.specs.Forms.{Form}
 use Rattle.sound_programs.specs.Nesting as nesting
 use Rattle.sound_programs.specs.Nesting.{IsUnit, Nests_from}
-use Rattle.written_programs.specs.Scalars0.{Scalars, IsScalars, source_unit, wide_unit, program_of}
+use Rattle.column_scalars.specs.Scalars.{Scalars, IsScalars, source_unit, wide_unit, program_of}
 use Rattle.written_programs.specs.WideUnits0.{AreWritable, WideUnitsPrintable}
 use Rattle.written_programs.specs.Writable.{CanBeWritten}
 use Rattle.written_programs.proofs.EachUnit.{a_unit}

@@ -2,5 +2,4 @@ pub mod FormLines0
 pub mod Undirected
 pub mod Regrouped
 pub mod Writable
-pub mod Scalars0
 pub mod WideUnits0

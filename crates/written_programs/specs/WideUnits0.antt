@@ -11,7 +11,7 @@ use Rattle.fort_grammar.specs.Token.{text_class}
 use Rattle.fort_expr.specs.Expression.{IsExpr}
 use Rattle.claw_meaning.specs.Plain.{plain_expr, plain_file}
 use Rattle.claw_meaning.specs.Syntax as plain
-use Rattle.written_programs.specs.Scalars0.{Scalars, IsScalars, program_of, wide_unit}
+use Rattle.column_scalars.specs.Scalars.{Scalars, IsScalars, program_of, wide_unit}
 use Rattle.written_programs.specs.FormLines0.{IsPrintableFile}
 
 -- a name that no keyword is

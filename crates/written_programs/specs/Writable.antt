@@ -7,7 +7,7 @@ use Rattle.claw_meaning.specs.Plain.{plain_unit}
 use Rattle.claw_meaning.specs.Syntax.{Unit, Program}
 use Rattle.sound_programs.specs.Forms.{Form}
 use Rattle.sound_programs.specs.Nesting.{IsUnit}
-use Rattle.written_programs.specs.Scalars0.{Scalars, IsScalars, source_unit, wide_unit}
+use Rattle.column_scalars.specs.Scalars.{Scalars, IsScalars, source_unit, wide_unit}
 use Rattle.written_programs.specs.FormLines0.{TokenLine, HaveForms}
 use Rattle.written_programs.specs.Regrouped.{regrouped}
 use Rattle.written_programs.specs.Undirected.{IsUndirected}
