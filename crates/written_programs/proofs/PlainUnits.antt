@@ -6,8 +6,8 @@ use Rattle.fort_tree.specs.declared.unit.File.{File}
 use Rattle.fort_units.specs.Program.{mode_of, IsProgram}
 use Rattle.claw_meaning.specs.Plain.{plain_file}
 use Rattle.claw_meaning.specs.Syntax as plain
-use Rattle.written_programs.specs.Regrouped.{regrouped}
-use Rattle.written_programs.specs.Undirected.{IsUndirected}
+use Rattle.plain_units.specs.Regrouped.{regrouped}
+use Rattle.plain_units.specs.Undirected.{IsUndirected}
 use Rattle.written_programs.specs.Writable.{CanBeWritten}
 use Rattle.written_programs.proofs.EachUnit.{IsSaidUnit, a_unit}
 use Rattle.written_programs.proofs.UnitsWritten.{unit_written}

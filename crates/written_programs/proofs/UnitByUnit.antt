@@ -1,5 +1,6 @@
 -- A program can be written unit by unit.
-use Rattle.std.proofs.Common.{◌≡◌, List, [], ◌∷◌, map, refl, sym, ap, ◌∙◌, subst}
+use Rattle.std.proofs.Common.{◌≡◌, ℕ, suc, List, [], ◌∷◌, length, Some, map, refl, sym, ap, ◌∙◌, subst, arith}
+use Rattle.std.specs.Prelude.{slice_get}
 use Rattle.std.specs.List.{All, AllByRecursion, AllZip}
 use Rattle.std.proofs.lemmas.List.Elements.{recursion_from_All}
 use Rattle.fort_tree.specs.declared.choice.Mode.{Mode}
@@ -10,8 +11,8 @@ use Rattle.fort_units.specs.Program.{mode_of, IsProgram}
 use Rattle.claw_meaning.specs.Plain.{plain_file, plain_unit}
 use Rattle.claw_meaning.specs.Syntax as plain
 use Rattle.written_programs.specs.FormLines0.{IsPrintableFile}
-use Rattle.written_programs.specs.Regrouped.{regrouped}
-use Rattle.written_programs.specs.Undirected.{IsUndirected}
+use Rattle.plain_units.specs.Regrouped.{regrouped}
+use Rattle.plain_units.specs.Undirected.{IsUndirected}
 use Rattle.written_programs.specs.WideUnits0.{WideUnitsPrintable}
 use Rattle.written_programs.specs.Writable.{CanBeWritten, CanReplace, IsWrittenAs, as_it_is, for_all_columns, UnitByUnit, all_regrouped}
 use Rattle.written_programs.proofs.EachUnit.{IsSaidUnit, all_units}
@@ -67,3 +68,11 @@ undirected_program printable lines file written p n e =
       order = ap (λ (q : plain.Program). q.order) e;
       units = subst (AllZip IsWrittenAs us) (sym (ap (λ (q : plain.Program). q.units) e)) (all_written us (recursion_from_All IsUndirected us n));
     })
+
+-- ---- By their numbers
+
+pub by_number : (R : plain.Unit → plain.Unit → Type 0) (us ts : List plain.Unit) → length ts ≡ length us → ((i : ℕ) (u t : plain.Unit) → slice_get us i ≡ Some u → slice_get ts i ≡ Some t → R u t) → AllZip R us ts
+by_number R [] [] e h = tt
+by_number R [] (t ∷ ts) e h = absurd (omega arith)
+by_number R (u ∷ us) [] e h = absurd (omega arith)
+by_number R (u ∷ us) (t ∷ ts) e h = let n : length ts ≡ length us = omega arith in (h 0 u t refl refl, by_number R us ts n (λ i v w a b. h (suc i) v w a b))

@@ -22,8 +22,8 @@ use Rattle.claw_meaning.specs.Units.{directive_of, is_word_define, is_word_paral
 use Rattle.sound_programs.specs.Forms.{Form, Says, is_entity}
 use Rattle.sound_programs.specs.Nesting as nesting
 use Rattle.sound_programs.specs.Nesting.{Uses, Implicit, Declares, Marked, Head-part, Ends, IsUnit, Body, in_unit}
-use Rattle.written_programs.specs.Regrouped.{regrouped}
-use Rattle.written_programs.specs.Undirected.{IsUndirected}
+use Rattle.plain_units.specs.Regrouped.{regrouped}
+use Rattle.plain_units.specs.Undirected.{IsUndirected}
 use Rattle.written_programs.proofs.NoDirectives.{all_undirected}
 use Rattle.written_programs.specs.Writable.{CanBeWritten}
 use Rattle.written_programs.proofs.BodiesWritten.{BodyAgain, body_again}

@@ -9,8 +9,8 @@ use Rattle.sound_programs.specs.Forms.{Form}
 use Rattle.sound_programs.specs.Nesting.{IsUnit}
 use Rattle.column_scalars.specs.Scalars.{Scalars, IsScalars, source_unit, wide_unit}
 use Rattle.written_programs.specs.FormLines0.{TokenLine, HaveForms}
-use Rattle.written_programs.specs.Regrouped.{regrouped}
-use Rattle.written_programs.specs.Undirected.{IsUndirected}
+use Rattle.plain_units.specs.Regrouped.{regrouped}
+use Rattle.plain_units.specs.Undirected.{IsUndirected}
 
 -- Lines of tokens have forms that are the unit in a target text, places set aside, however they were written.
 pub record CanBeWritten (u : Unit) : Type 0 where

@@ -1,15 +1,15 @@
 //! Laws of programs that are written unit by unit.
 
-ghost use Rattle.std.specs.Prelude.{◌≡◌, List};
-ghost use Rattle.std.specs.List.{All, Contains};
+ghost use Rattle.std.specs.Prelude.{◌≡◌, ℕ, List, Some, length, slice_get};
+ghost use Rattle.std.specs.List.{All, AllZip, Contains};
 ghost use Rattle.fort_tree.specs.declared.statement.Line.{Line};
 ghost use Rattle.fort_tree.specs.declared.unit.File.{File};
 ghost use Rattle.fort_units.specs.Program.{IsProgram};
 ghost use Rattle.claw_meaning.specs.Plain.{plain_file};
 ghost use Rattle.claw_meaning.specs.Syntax.{Unit};
 ghost use Rattle.written_programs.specs.FormLines0.{IsPrintableFile};
-ghost use Rattle.written_programs.specs.Regrouped.{regrouped};
-ghost use Rattle.written_programs.specs.Undirected.{IsUndirected};
+ghost use Rattle.plain_units.specs.Regrouped.{regrouped};
+ghost use Rattle.plain_units.specs.Undirected.{IsUndirected};
 ghost use Rattle.written_programs.specs.Writable.{CanBeWritten, CanReplace, IsWrittenAs, UnitByUnit, all_regrouped};
 
 /// A unit of a program that has no directives can be written with its declarations one by one and in their groups.
@@ -20,4 +20,10 @@ pub fn plain_units_can_be_written()
 /// What has a program's modules, in its order, and in the place of each unit one that can be written, can be written.
 pub fn programs_can_be_written()
     ensures { (lines : List Line) (source written : File) → IsProgram lines source → UnitByUnit CanReplace (plain_file source) (plain_file written) → IsPrintableFile written }
+{}
+
+/// Units that are written one by one are known by their numbers.
+pub fn written_by_number()
+    ensures replaced { (us ts : List Unit) → length ts ≡ length us → ((i : ℕ) (u t : Unit) → slice_get us i ≡ Some u → slice_get ts i ≡ Some t → CanReplace u t) → AllZip CanReplace us ts }
+    ensures made { (us ts : List Unit) → length ts ≡ length us → ((i : ℕ) (u t : Unit) → slice_get us i ≡ Some u → slice_get ts i ≡ Some t → IsWrittenAs u t) → AllZip IsWrittenAs us ts }
 {}

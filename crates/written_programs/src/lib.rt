@@ -6,4 +6,4 @@
 
 mod laws;
 
-pub use laws::{plain_units_can_be_written, programs_can_be_written};
+pub use laws::{plain_units_can_be_written, programs_can_be_written, written_by_number};
