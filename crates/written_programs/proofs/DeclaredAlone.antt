@@ -14,7 +14,7 @@ use Rattle.fort_grammar.specs.Token.{token_class}
 use Rattle.fort_stmt.specs.Form as f
 use Rattle.fort_stmt.specs.Form.{IsWords, IsKind, IsType, IsBound, IsBoundOption, IsDimension, IsShape, IsOwnShape, IsInitial, IsEntity, IsEntities, IsConstant, IsConstants, IsIntent, IsIntentAttribute, IsDimensionAttribute, IsAttributes, IsDeclaration, declared}
 use Rattle.fort_stmt.specs.declared.value.Entity.{Entity}
-use Rattle.written_programs.specs.WideUnits0.{IsFreeName}
+use Rattle.layout_reading.specs.WideUnits.{IsFreeName}
 use Rattle.written_programs.proofs.FreeNames.{token_free}
 
 -- Tokens that are this before any others

@@ -17,7 +17,7 @@ use Rattle.claw_meaning.specs.Plain.{plain_expr, plain_directive}
 use Rattle.claw_meaning.specs.Syntax as plain
 use Rattle.claw_meaning.proofs.PlainTrees.{plain_number, plain_name}
 use Rattle.column_scalars.specs.Scalars.{define}
-use Rattle.written_programs.specs.WideUnits0.{IsFreeName}
+use Rattle.layout_reading.specs.WideUnits.{IsFreeName}
 use Rattle.written_programs.proofs.FreeNames.{item_name, free_of_mark}
 
 unfoldable pub DefinesFreeNames : Directive → Type 0

@@ -16,7 +16,7 @@ use Rattle.fort_expr.specs.Expression as g
 use Rattle.fort_expr.proofs.Names.{referred-name}
 use Rattle.claw_lines.specs.Items.{name_text, unless_taken, free_item}
 use Rattle.claw_lines.specs.Words.{is_taken, is_reserved}
-use Rattle.written_programs.specs.WideUnits0.{IsFreeName}
+use Rattle.layout_reading.specs.WideUnits.{IsFreeName}
 
 -- ---- Tokens of statements
 

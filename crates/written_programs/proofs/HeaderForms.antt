@@ -23,7 +23,7 @@ use Rattle.claw_meaning.specs.Plain.{plain_decl, plain_expr}
 use Rattle.claw_meaning.specs.Syntax as plain
 use Rattle.sound_programs.specs.Forms.{is_entity}
 use Rattle.written_programs.proofs.DeclaredAlone.{IsAlone, HasFreeName, declarations_alone, declarations_free, result_alone}
-use Rattle.written_programs.specs.WideUnits0.{IsFreeName, IsDerived}
+use Rattle.layout_reading.specs.WideUnits.{IsFreeName, IsDerived}
 use Rattle.written_programs.proofs.FreeNames.{token_free}
 use Rattle.written_programs.proofs.FirstLevels
 use Rattle.written_programs.proofs.SaidForms.{IsSaid}

@@ -8,8 +8,8 @@ use Rattle.fort_tree.specs.declared.place.Place.{Place}
 use Rattle.fort_expr.specs.Words.{front_place}
 use Rattle.sound_programs.specs.Forms.{Form, Says, Directs}
 use Rattle.fort_stmt.specs.Form.{IsStatement}
-use Rattle.written_programs.specs.FormLines0 as line
-use Rattle.written_programs.specs.FormLines0.{TokenLine, HaveForms}
+use Rattle.layout_reading.specs.FormLines as line
+use Rattle.layout_reading.specs.FormLines.{TokenLine, HaveForms}
 use Rattle.written_programs.proofs.DefineNames.{DefinesFreeNames}
 
 -- tokens are a statement of this level

@@ -1,5 +1,5 @@
 -- What a source says of a unit of column scalars lets its names and sums be written.
-use Rattle.std.proofs.Common.{◌≡◌, ℕ, suc, arith, List, [], ◌∷◌, ◌++◌, Option, None, Some, true, false, map, refl, sym, ap, ◌∙◌, subst, Contains}
+use Rattle.std.proofs.Common.{◌≡◌, ℕ, List, [], ◌∷◌, ◌++◌, Option, None, Some, true, false, map, sym, ap, ◌∙◌, subst, Contains}
 use Rattle.std.specs.List.{AllByRecursion}
 use Rattle.std.proofs.lemmas.List.Elements.{All-from_recursion, All-contains}
 use Rattle.fort_tree.specs.declared.choice.Mode.{Mode}
@@ -16,7 +16,7 @@ use Rattle.sound_programs.specs.Nesting as nesting
 use Rattle.sound_programs.specs.Nesting.{Inside, Body, Uses, Implicit, Declares, Marked, Head-part, IsUnit}
 use Rattle.column_scalars.proofs.Members.{first_is, later_is}
 use Rattle.column_scalars.specs.Scalars.{Scalars, IsScalars, AreSums, source_unit, decls_of, assignments}
-use Rattle.written_programs.specs.WideUnits0.{IsFreeName, IsDerived, AreWritable}
+use Rattle.layout_reading.specs.WideUnits.{IsFreeName, IsDerived, AreWritable}
 use Rattle.written_programs.proofs.DeclaredAlone.{HasFreeName, each_append}
 use Rattle.written_programs.proofs.DefineNames.{DefinesFreeNames, one_item}
 use Rattle.written_programs.proofs.HeaderForms.{said_otherwise}

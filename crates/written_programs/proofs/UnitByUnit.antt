@@ -10,10 +10,10 @@ use Rattle.fort_tree.specs.declared.unit.Unit as tree_unit
 use Rattle.fort_units.specs.Program.{mode_of, IsProgram}
 use Rattle.claw_meaning.specs.Plain.{plain_file, plain_unit}
 use Rattle.claw_meaning.specs.Syntax as plain
-use Rattle.written_programs.specs.FormLines0.{IsPrintableFile}
+use Rattle.layout_reading.specs.Programs.{IsPrintableFile}
 use Rattle.plain_units.specs.Regrouped.{regrouped}
 use Rattle.plain_units.specs.Undirected.{IsUndirected}
-use Rattle.written_programs.specs.WideUnits0.{WideUnitsPrintable}
+use Rattle.layout_reading.specs.WideUnits.{WideUnitsPrintable}
 use Rattle.written_programs.specs.Writable.{CanBeWritten, CanReplace, IsWrittenAs, as_it_is, for_all_columns, UnitByUnit, all_regrouped}
 use Rattle.written_programs.proofs.EachUnit.{IsSaidUnit, all_units}
 use Rattle.written_programs.proofs.LinesSaid.{program_said}

@@ -14,7 +14,7 @@ use Rattle.sound_programs.specs.Forms.{Form}
 use Rattle.sound_programs.specs.Nesting as nesting
 use Rattle.sound_programs.specs.Nesting.{IsUnit, Nests_from}
 use Rattle.column_scalars.specs.Scalars.{Scalars, IsScalars, source_unit, wide_unit, program_of}
-use Rattle.written_programs.specs.WideUnits0.{AreWritable, WideUnitsPrintable}
+use Rattle.layout_reading.specs.WideUnits.{AreWritable, WideUnitsPrintable}
 use Rattle.written_programs.specs.Writable.{CanBeWritten}
 use Rattle.written_programs.proofs.EachUnit.{a_unit}
 use Rattle.written_programs.proofs.ScalarUnits.{unit_ok}

@@ -1,3 +1,1 @@
-pub mod FormLines0
 pub mod Writable
-pub mod WideUnits0

@@ -8,7 +8,7 @@ use Rattle.claw_meaning.specs.Syntax.{Unit, Program}
 use Rattle.sound_programs.specs.Forms.{Form}
 use Rattle.sound_programs.specs.Nesting.{IsUnit}
 use Rattle.column_scalars.specs.Scalars.{Scalars, IsScalars, source_unit, wide_unit}
-use Rattle.written_programs.specs.FormLines0.{TokenLine, HaveForms}
+use Rattle.layout_reading.specs.FormLines.{TokenLine, HaveForms}
 use Rattle.plain_units.specs.Regrouped.{regrouped}
 use Rattle.plain_units.specs.Undirected.{IsUndirected}
 

@@ -6,4 +6,7 @@
 
 mod laws;
 
-pub use laws::{plain_units_can_be_written, programs_can_be_written, written_by_number};
+pub use laws::{
+    column_units_can_be_written, plain_units_can_be_written, programs_can_be_written,
+    written_by_number,
+};
