@@ -37,7 +37,7 @@ pub fn programs_can_be_written()
     wide_units_are_printable();
 }
 
-/// Units that are written one by one are known by their numbers.
+/// Units are replaced, or written, one by one where they are as many and each is at its number.
 pub fn written_by_number()
     ensures replaced { (us ts : List Unit) → length ts ≡ length us → ((i : ℕ) (u t : Unit) → slice_get us i ≡ Some u → slice_get ts i ≡ Some t → CanReplace u t) → AllZip CanReplace us ts }
     ensures made { (us ts : List Unit) → length ts ≡ length us → ((i : ℕ) (u t : Unit) → slice_get us i ≡ Some u → slice_get ts i ≡ Some t → IsWrittenAs u t) → AllZip IsWrittenAs us ts }
