@@ -1,8 +1,8 @@
 -- Courses that are alike: without marked loops, and the same but for what they announce. They end alike, whatever the orders.
-use Rattle.std.proofs.Common.{◌≡◌, ℕ, refl, ap, sym, ◌∙◌, List, [], ◌∷◌, ◌++◌, Bool, Option, Some, None}
+use Rattle.std.proofs.Common.{◌≡◌, ℕ, refl, ap, sym, ◌∙◌, List, [], ◌++◌, Bool, Option, Some, None}
 use mathlib.Core.Path.{ap₂}
 use Rattle.courses.specs.Element.{Value, Element, Store, put, blank, merged}
-use Rattle.courses.specs.Interaction.{Note, Event, Interaction, bind, Orders, answer_of, next_of, store_of}
+use Rattle.courses.specs.Interaction.{Note, Event, Interaction, Orders, answer_of, next_of, store_of}
 use Rattle.courses.specs.Handlers.{keeping}
 use Rattle.courses.specs.Course.{Sort, Answer, Course, Give, Fail, Get, Put, Tell, Scope, and_then, line, loop_runs, on_some}
 use Rattle.courses.proofs.Binds.{follows, stops}

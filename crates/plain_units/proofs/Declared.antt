@@ -1,7 +1,7 @@
 -- A name that is declared once has the same declaration in the three groups.
 use Rattle.std.proofs.Common.{◌≡◌, refl, ap, sym, ◌∙◌, List, [], ◌∷◌, ◌++◌, map, Bool, true, false, Option, Some, None}
 use Rattle.std.specs.Prelude.{if◌then◌else◌, ◌&&◌, not}
-use Rattle.std.specs.List.{find, filter, IsDistinct, AllByRecursion}
+use Rattle.std.specs.List.{filter, IsDistinct, AllByRecursion}
 use Rattle.std.specs.Option.{option_or}
 use Rattle.std.specs.Str.{bytes_eq}
 use Rattle.std.specs.Bool.{Decides}
@@ -17,13 +17,13 @@ use Rattle.claw_meaning.specs.Interface.{no_widening, wide_decl, integer_decl, w
 use Rattle.claw_meaning.specs.Erasure.{grouped}
 
 module _ (u : Unit) where
-  abbrev plain : Decl → Bool
+  abbrev pub plain : Decl → Bool
   plain d = is_other_decl u d && not (is_fresh d.name)
 
-  abbrev fresh : Decl → Bool
+  abbrev pub fresh : Decl → Bool
   fresh d = is_other_decl u d && is_fresh d.name
 
-  abbrev group : (Decl → Bool) → List Decl
+  abbrev pub group : (Decl → Bool) → List Decl
   group p = filter p u.decls
 
   abbrev widened : List Decl → List Decl
@@ -36,7 +36,7 @@ module _ (u : Unit) where
       ∙ ap (λ s. group is_constant_decl ++ (s ++ ((widened (group plain) ++ widened (group fresh)) ++ []))) (append-nil (group (is_shared_decl u)))
       ∙ ap (λ s. group is_constant_decl ++ (group (is_shared_decl u) ++ s)) (append-nil (widened (group plain) ++ widened (group fresh)) ∙ ap₂ (λ a b. a ++ b) (map-id (group plain)) (map-id (group fresh)))
 
-abbrev kept : (Decl → Bool) → Option Decl → Option Decl
+abbrev pub kept : (Decl → Bool) → Option Decl → Option Decl
 kept p None = None
 kept p (Some d) = if p d then Some d else None
 
@@ -56,7 +56,7 @@ absent p k x (d ∷ ds) e h = go (p d) (not_here k x d.name e h.0) (absent p k x
     go true q i = ap (λ a. if a then Some d else decl_named (filter p ds) x) q ∙ i
     go false q i = i
 
-filtered : (p : Decl → Bool) (x : Text) (ds : List Decl) → IsDistinct bytes_eq (map (λ d. d.name) ds) → decl_named (filter p ds) x ≡ kept p (decl_named ds x)
+pub filtered : (p : Decl → Bool) (x : Text) (ds : List Decl) → IsDistinct bytes_eq (map (λ d. d.name) ds) → decl_named (filter p ds) x ≡ kept p (decl_named ds x)
 unfolding IsDistinct
 filtered p x [] h = refl
 filtered p x (d ∷ ds) h = go (bytes_eq d.name x) (p d) refl refl (filtered p x ds h.1) (λ e. absent p d.name x ds ((bytes_eq-Decides d.name x).0 e) h.0)

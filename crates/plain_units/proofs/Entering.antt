@@ -1,5 +1,5 @@
 -- What the names of a plain unit mean in the target, and what the unit does there when it is called.
-use Rattle.std.proofs.Common.{◌≡◌, ℕ, zero, suc, ℤ, refl, ap, sym, ◌∙◌, subst, List, [], ◌∷◌, ◌++◌, map, Bool, true, false, Option, Some, None}
+use Rattle.std.proofs.Common.{◌≡◌, ℕ, zero, suc, ℤ, refl, ap, sym, ◌∙◌, subst, List, [], ◌∷◌, map, false, Option, Some, None}
 use Rattle.std.specs.Prelude.{if◌then◌else◌, ◌&&◌}
 use Rattle.std.specs.List.{IsDistinct}
 use Rattle.std.specs.Str.{bytes_eq}
@@ -10,21 +10,19 @@ use Rattle.fort_arith.specs.declared.kind.Kind.TheVariants.{I4}
 use Rattle.fort_tree.specs.declared.unit.Intent.TheVariants.{In}
 use Rattle.courses.specs.Element.{Element, nobody}
 use Rattle.courses.specs.Course.{Sort, Item, Many, Way, Course, Fail, and_then}
-use Rattle.claw_meaning.specs.Syntax.{Text, Decl, Dimension, Stmts, Unit, Program}
-use Rattle.claw_meaning.specs.Scope.{Entity, Unknown, Variable, Constant, Procedure, decl_named, visible, module_gives, unit_named}
-use Rattle.claw_meaning.specs.Kinds.{kind_of_entity}
-use Rattle.claw_meaning.specs.Scene.{Bounds, Meant, Unmeant, Held, Known, Called, Dummy, Passed, Callee, Scene}
-use Rattle.claw_meaning.specs.Evaluation.{is_in}
+use Rattle.claw_meaning.specs.Syntax.{Text, Decl, Stmts, Unit, Program}
+use Rattle.claw_meaning.specs.Scope.{Entity, Unknown, Variable, Constant, Procedure, decl_named, visible, unit_named}
+use Rattle.claw_meaning.specs.Scene.{Meant, Held, Called, Dummy, Passed, Callee, Scene}
 use Rattle.claw_meaning.specs.Statements.{meanings}
 use Rattle.claw_meaning.specs.Dependence.{is_column_called}
-use Rattle.claw_meaning.specs.Units.{is_column_unit, is_column_of, is_column_dummy, is_listed, data_of, directive_of, is_word_parallelize, is_array_decl, intent_or_in, dummy_of, dummies_of, declared_bounds, constant_whole, constant_value, known_in_module, known_here, known_in_unit, Given, bounds_from, meant_by, scene_of, given_by_actuals, own_elements, fits, copied_in, given_out, results_of, with_all, making, body_course, entered, callee_of, no_callee, callee_or_none, callees_to}
+use Rattle.claw_meaning.specs.Units.{is_column_unit, is_column_of, is_listed, data_of, directive_of, is_word_parallelize, is_array_decl, intent_or_in, dummy_of, dummies_of, declared_bounds, constant_whole, known_in_module, known_here, known_in_unit, Given, bounds_from, meant_by, scene_of, given_by_actuals, own_elements, fits, copied_in, given_out, results_of, with_all, making, body_course, entered, callee_of, no_callee, callee_or_none, callees_to}
 use Rattle.plain_units.specs.Regrouped.{regrouped}
 use Rattle.plain_units.specs.Calling.{unit_run, runs_column}
 use Rattle.plain_units.specs.Translated.{IsPlain}
 use Rattle.plain_units.proofs.Alike.{Alike, gives, fails, tells_left, tells_right, alike_then}
 use Rattle.plain_units.proofs.Parts.{AlikeCallees, callees, if_alike, with_values_alike, stored_alike}
 use Rattle.plain_units.proofs.Trees.{meanings_alike}
-use Rattle.plain_units.proofs.Seeing.{Row, plain_row, column_row, Rows, Found, neither, two, SameEntity, unknown, variable, constant, procedure, row_name, row_kind, same_decl, target, found_named, module_same, visible_same}
+use Rattle.plain_units.proofs.Seeing.{plain_row, column_row, Rows, Found, neither, two, SameEntity, unknown, variable, constant, procedure, row_name, row_kind, same_decl, target, found_named, module_same, visible_same}
 
 -- Dummies
 

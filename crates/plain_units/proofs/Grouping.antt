@@ -1,5 +1,5 @@
 -- A unit with its declarations by their groups is the regrouped one, where it is no column unit.
-use Rattle.std.proofs.Common.{◌≡◌, refl, ap, sym, ◌∙◌, List, ◌++◌, map, Bool, true, false}
+use Rattle.std.proofs.Common.{◌≡◌, refl, ap, sym, ◌∙◌, List, ◌++◌, Bool, true, false}
 use Rattle.std.specs.Prelude.{[], ◌&&◌, not}
 use Rattle.std.specs.List.{filter}
 use Rattle.std.proofs.lemmas.List.{append_assoc}
@@ -7,7 +7,6 @@ use mathlib.Core.Path.{fun_ext}
 use Rattle.claw_meaning.specs.Syntax.{Decl, Unit}
 use Rattle.claw_meaning.specs.Units.{is_column_unit, is_column_of, is_listed, data_of, directive_of, is_word_parallelize, is_intent_in, is_array_decl}
 use Rattle.claw_meaning.specs.Interface.{is_constant_decl, is_shared_decl, is_fresh}
-use Rattle.claw_meaning.specs.Erasure.{grouped}
 use Rattle.plain_units.specs.Regrouped.{regrouped}
 use Rattle.plain_units.specs.Groups.{is_shared, is_in_group, in_groups, with_groups}
 use Rattle.plain_units.specs.declared.regrouping.Group.TheVariants.{Constants, Shared, Others, Made}

@@ -9,12 +9,12 @@ use Rattle.fort_tree.specs.Intrinsic.{intrinsic_named}
 use Rattle.claw_meaning.specs.Syntax.{Text, Expr, Numeral, Boolean, Name, Reference, Signed, Binary, Paren, Subscripts, No_more, At, Section, Between, Limit, Unbounded, Bounded, Decl, Directive, Stmt, Assign, Call, If, Select, Do, Block, Piece, Exit, Cycle, Return, Stmts, Done, Then, Arms, No_arm, Arm, Cases, No_case, Case, Otherwise, Nothing_else, Else, Unit, Program}
 use Rattle.claw_meaning.specs.Dependence.{is_size, called_in}
 use Rattle.claw_meaning.specs.Units.{is_column_unit}
-use Rattle.claw_meaning.specs.Interface.{Widening, widening, no_widening, widening_of, written_decls, AsksOther, RefersWide, HasDimension, AllHaveDimension, LimitHasDimension, OptionHasDimension, CallHasDimension, ActualHasDimension, ActualsHaveDimension, HeadHasDimension, StmtHasDimension, StmtsHaveDimension, ArmsHaveDimension, CasesHaveDimension, OtherwiseHasDimension, column_called, HasGuard, UnitInterface}
-use Rattle.claw_meaning.specs.Erasure.{Reading, read_stmts, rank_in, column_dummies, grouped, bare_reading, bare_unit, lost_place, id_if, erased_reading, narrow, is_text, was_there, behind_guard, erased_unit}
+use Rattle.claw_meaning.specs.Interface.{widening, no_widening, widening_of, AsksOther, RefersWide, HasDimension, AllHaveDimension, LimitHasDimension, OptionHasDimension, CallHasDimension, ActualHasDimension, ActualsHaveDimension, StmtHasDimension, StmtsHaveDimension, ArmsHaveDimension, CasesHaveDimension, OtherwiseHasDimension, column_called, HasGuard, UnitInterface}
+use Rattle.claw_meaning.specs.Erasure.{Reading, read_stmts, rank_in, column_dummies, grouped, bare_unit, lost_place, id_if, erased_reading, narrow, is_text, was_there, behind_guard, erased_unit}
 use Rattle.claw_meaning.specs.Spread.{is_unmarked, are_unmarked, arms_unmarked, cases_unmarked, otherwise_unmarked, has_routine}
 use Rattle.plain_units.specs.Regrouped.{regrouped}
 use Rattle.plain_units.specs.Undirected.{is_undirected, are_undirected, arms_undirected, cases_undirected, otherwise_undirected}
-use Rattle.plain_units.specs.Translated.{Translates, IsPlain, ArePlain}
+use Rattle.plain_units.specs.Translated.{Translates, ArePlain}
 use Rattle.plain_units.proofs.Trees.{both}
 use Rattle.plain_units.proofs.Declared.{written_is}
 use Rattle.plain_units.proofs.Seeing.{Row, plain_row, column_row, rows_of, row_at}

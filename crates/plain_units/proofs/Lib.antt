@@ -7,3 +7,7 @@ pub mod Entering
 pub mod Running
 pub mod Interfaces
 pub mod Grouping
+pub mod Marked
+pub mod Naming
+pub mod Building
+pub mod Combining

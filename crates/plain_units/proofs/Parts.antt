@@ -1,5 +1,5 @@
 -- The parts of evaluation and of statements give alike courses, if what they go on with does.
-use Rattle.std.proofs.Common.{◌≡◌, ℕ, zero, suc, ℤ, pos, ◌+ℤ◌, ◌-ℤ◌, refl, List, [], ◌∷◌, map, Bool, true, false, Option, Some, None}
+use Rattle.std.proofs.Common.{ℕ, zero, suc, ℤ, pos, ◌+ℤ◌, ◌-ℤ◌, List, [], ◌∷◌, map, Bool, true, false, Option, Some, None}
 use Rattle.std.specs.Prelude.{if◌then◌else◌, not}
 use Rattle.std.specs.Ordering.{int_eq}
 use Rattle.fort_arith.specs.declared.kind.Kind.{Kind}
@@ -14,11 +14,11 @@ use Rattle.fort_tree.specs.declared.expr.Unary.TheVariants.{Plus, Minus, Not}
 use Rattle.courses.specs.Element.{Value, Undefined, Whole, Truth, Element}
 use Rattle.courses.specs.Interaction.{Turn}
 use Rattle.courses.specs.Copying.{with_values, stored}
-use Rattle.courses.specs.Course.{Sort, Number, Item, Way, Many, Signal, Normal, Exits, Cycles, Returns, Answer, Course, Give, Fail, Get, Put, Tell, Scope, and_then}
+use Rattle.courses.specs.Course.{Sort, Number, Item, Way, Many, Signal, Normal, Exits, Cycles, Returns, Course}
 use Rattle.claw_meaning.specs.Scene.{Variable, Meant, Unmeant, Held, Known, Called, Dummy, Passed, Callee, within, element, moved}
 use Rattle.claw_meaning.specs.Evaluation.{defined, with_whole, with_truth, with_exact, given_whole, given_truth, converted, with_sign, logical, operated, checked, read, named, named_place, indexed_place, agree, shape_among, offsets_of, with_extent, with_wholes, elemental, elemental_value, first_value, summed, sum, gathered, is_out, by_value, passed_value, passed_elements, passed, function_result, function_called}
-use Rattle.claw_meaning.specs.Statements.{Stored, put_stored, then_run, after_turn, chosen, trips, turns, counted, looped, with_scalar, bounds_converted, written_back, subroutine_called}
-use Rattle.plain_units.proofs.Alike.{Alike, gives, fails, gets, puts, tells_left, tells_right, scopes, tells, alike_then}
+use Rattle.claw_meaning.specs.Statements.{Stored, put_stored, then_run, after_turn, chosen, trips, turns, looped, with_scalar, bounds_converted, written_back, subroutine_called}
+use Rattle.plain_units.proofs.Alike.{Alike, gives, fails, gets, puts, scopes, tells, alike_then}
 
 pub if_alike : {k : Sort} (b : Bool) (r r' q q' : Course k) → Alike k r r' → Alike k q q' → Alike k (if b then r else q) (if b then r' else q')
 if_alike true r r' q q' h i = h

@@ -1,20 +1,20 @@
 -- What a run of a plain unit in the target ends with.
-use Rattle.std.proofs.Common.{◌≡◌, ℕ, zero, refl, ap, sym, ◌∙◌, subst, List, [], length, Bool, true, false, Option, Some, None}
+use Rattle.std.proofs.Common.{◌≡◌, ℕ, ap, sym, ◌∙◌, subst, List, length, false, Some}
 use Rattle.std.specs.Prelude.{◌&&◌, if◌then◌else◌, slice_get}
 use Rattle.std.specs.Option.{option_map}
 use Rattle.std.specs.Str.{bytes_eq}
 use Rattle.std.proofs.lemmas.Bool.{false≢true}
 use mathlib.Core.Path.{ap₂, fun_ext}
-use Rattle.courses.specs.Element.{Undefined, Store}
-use Rattle.courses.specs.Interaction.{Orders, answer_of, store_of}
-use Rattle.courses.specs.Course.{Way, Course, line, loop_runs}
+use Rattle.courses.specs.Element.{Undefined}
+use Rattle.courses.specs.Interaction.{answer_of, store_of}
+use Rattle.courses.specs.Course.{Way, line}
 use Rattle.courses.specs.Weaving.{AllApart}
 use Rattle.courses.specs.Frames.{look}
 use Rattle.courses.specs.Plans.{Plan, Up, orders_of}
 use Rattle.claw_meaning.specs.Syntax.{Unit, Module, Item, Program}
 use Rattle.claw_meaning.specs.Units.{is_column_unit, callees, callees_to, body_course}
 use Rattle.claw_meaning.specs.Frames.{Frame, entries, with_store, given_by_frame, is_out_decl, started}
-use Rattle.claw_meaning.specs.Runs.{Outcome, exec, Apart, unit_course, result_held, result_or_none}
+use Rattle.claw_meaning.specs.Runs.{exec, Apart, unit_course, result_held, result_or_none}
 use Rattle.claw_meaning.specs.Kept.{KeepsUnit}
 use Rattle.plain_units.specs.Regrouped.{regrouped}
 use Rattle.plain_units.specs.Translated.{Translates, IsPlain, ArePlain}

@@ -8,7 +8,6 @@ use Rattle.claw_meaning.specs.Syntax.{Text, Decl, Use, Unit, Module, Program}
 use Rattle.claw_meaning.specs.Scope.{Entity, Unknown, Variable, Constant, Procedure, or_else, decl_named, entity_of, procedure_of, same_host, unit_named, unit_within, brings, used, given_by, module_at, gives, module_gives, host_gives, visible}
 use Rattle.claw_meaning.specs.Kinds.{kind_of_entity, kind_of_decl, result_name}
 use Rattle.claw_meaning.specs.Units.{is_column_unit}
-use Rattle.claw_meaning.specs.Interface.{no_widening, written_decls}
 use Rattle.plain_units.specs.Regrouped.{regrouped}
 use Rattle.plain_units.specs.Translated.{TranslatesUnit, plain, column, TranslatesUnits, none, next, IsPlain}
 use Rattle.plain_units.proofs.Declared.{written_is, grouped_decl}

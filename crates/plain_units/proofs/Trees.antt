@@ -1,7 +1,7 @@
 -- Two scenes in which names mean the same and callees are alike: expressions and statements without directives have alike
 -- courses in both.
-use Rattle.std.proofs.Common.{◌≡◌, ℕ, zero, suc, ℤ, pos, ◌+ℤ◌, refl, ap, List, [], ◌∷◌, ◌++◌, map, Bool, true, false, Option, Some, None}
-use Rattle.std.specs.Prelude.{if◌then◌else◌, ◌&&◌, not, is_none, ⊤}
+use Rattle.std.proofs.Common.{◌≡◌, ℕ, ℤ, pos, ◌+ℤ◌, refl, List, [], ◌∷◌, Bool, true, false, Option, Some, None}
+use Rattle.std.specs.Prelude.{◌&&◌, is_none}
 use Rattle.std.specs.List.{list_any}
 use Rattle.std.proofs.lemmas.Bool.{false≢true}
 use Rattle.fort_arith.specs.declared.kind.Kind.{Kind}
@@ -10,11 +10,11 @@ use Rattle.fort_arith.specs.declared.op.Intrinsic.TheVariants.{Abs, Int, Max, Mi
 use Rattle.fort_tree.specs.Intrinsic.{intrinsic_named}
 use Rattle.courses.specs.Element.{Value, Element}
 use Rattle.courses.specs.Interaction.{Turn}
-use Rattle.courses.specs.Course.{Sort, Number, Item, Way, Many, Normal, Exits, Cycles, Returns, Answer, Course, Give, Fail, and_then}
-use Rattle.claw_meaning.specs.Syntax.{Text, Expr, Numeral, Boolean, Name, Reference, Signed, Binary, Paren, Subscripts, No_more, At, Section, Between, Limit, Unbounded, Bounded, Head, Range, Directive, Stmt, Assign, Call, If, Select, Do, Block, Piece, Exit, Cycle, Return, Stmts, Done, Then, Arms, No_arm, Arm, Cases, No_case, Case, Otherwise, Nothing_else, Else}
-use Rattle.claw_meaning.specs.Scene.{Bounds, Meant, Unmeant, Held, Known, Called, Dummy, Passed, Callee, Scene, kind_meant, bounds_meant}
-use Rattle.claw_meaning.specs.Evaluation.{kind_in, with_whole, with_truth, referred, intrinsic, read, extent_asked, array_named, dimension_asked, is_variable, shapes, shapes_of_all, shape_among, agree, offsets_of, value, values, subscripts, place, arguments, function_called, first_bounds, other_bounds, settled, all_settled, limit_settled}
-use Rattle.claw_meaning.specs.Statements.{Stored, one_assigned, all_assigned, put_stored, array_assigned, assigned, assignment, tested, looped, privates_of, with_scalar, step_settled, step_value, head_evaluated, loop, holds, called, subroutine_called, meaning, meanings, first_true, first_holding, meaning_otherwise}
+use Rattle.courses.specs.Course.{Sort, Number, Item, Way, Many, Normal, Exits, Cycles, Returns, Course, and_then}
+use Rattle.claw_meaning.specs.Syntax.{Text, Expr, Numeral, Boolean, Name, Reference, Signed, Binary, Paren, Subscripts, No_more, At, Section, Between, Limit, Unbounded, Bounded, Head, Directive, Stmt, Assign, Call, If, Select, Do, Block, Piece, Exit, Cycle, Return, Stmts, Done, Then, Arms, No_arm, Arm, Cases, No_case, Case, Otherwise, Nothing_else, Else}
+use Rattle.claw_meaning.specs.Scene.{Bounds, Meant, Unmeant, Held, Known, Called, Dummy, Passed, Callee, Scene, bounds_meant}
+use Rattle.claw_meaning.specs.Evaluation.{kind_in, with_whole, referred, intrinsic, extent_asked, array_named, dimension_asked, is_variable, shapes, shapes_of_all, shape_among, agree, offsets_of, value, values, subscripts, place, arguments, function_called, first_bounds, other_bounds, settled, all_settled, limit_settled}
+use Rattle.claw_meaning.specs.Statements.{Stored, one_assigned, all_assigned, assigned, assignment, tested, step_settled, step_value, head_evaluated, loop, holds, called, subroutine_called, meaning, meanings, first_true, first_holding, meaning_otherwise}
 use Rattle.plain_units.specs.Undirected.{is_undirected, are_undirected, arms_undirected, cases_undirected, otherwise_undirected}
 use Rattle.plain_units.specs.Calling.{Refers, AllRefer, LimitRefers, OptionRefers, HeadRefers, Calls, AllCall, ArmsCall, CasesCall, OtherwiseCalls}
 use Rattle.plain_units.proofs.Alike.{Alike, gives, fails, tells, alike_then}
@@ -58,15 +58,15 @@ module _ (m : Text → Meant) (f f' : Text → Callee) (IsSo : Text → Type 0)
   subroutine_argued : (a a' : Arguing Way) → ArgueAlike {k = Way} a a' → (g h : Callee) → AlikeCallees g h → Alike Way (a g.dummies (subroutine_called g)) (a' h.dummies (subroutine_called h))
   subroutine_argued a a' argue _ _ (callees dummies owns r q alike) = argue dummies _ _ (subroutine_alike _ _ (callees dummies owns r q alike))
 
-  referred_alike : (n : Meant) → ((unit : Text) (kind : Kind) → n ≡ Called unit kind → AlikeCallees (f unit) (f' unit)) → (which : Option Intrinsic) (kind : Kind) (subs : Subscripts)
+  referred_alike : (n : Meant) (which : Option Intrinsic) → (which ≡ None → (unit : Text) (kind : Kind) → n ≡ Called unit kind → AlikeCallees (f unit) (f' unit)) → (kind : Kind) (subs : Subscripts)
       (at at' : List ℤ → Course (Many Item)) (q q' : Course (Many Number)) (a a' : Arguing Item)
       → ((o : List ℤ) → Alike (Many Item) (at o) (at' o)) → Alike (Many Number) q q' → ArgueAlike {k = Item} a a' → (offsets : List ℤ)
       → Alike Item (referred c n which kind subs at q a offsets) (referred c' n which kind subs at' q' a' offsets)
-  referred_alike n t (Some which) kind subs at at' q q' a a' i j k offsets = intrinsic_alike which kind subs at at' i offsets
-  referred_alike Unmeant t None kind subs at at' q q' a a' i j k offsets = fails
-  referred_alike (Held v) t None kind subs at at' q q' a a' i j k offsets = alike_then q q' _ _ j (read_same v)
-  referred_alike (Known kind' value) t None kind subs at at' q q' a a' i j k offsets = fails
-  referred_alike (Called unit kind') t None kind subs at at' q q' a a' i j k offsets = function_argued a a' k (f unit) (f' unit) (t unit kind' refl)
+  referred_alike n (Some which) t kind subs at at' q q' a a' i j k offsets = intrinsic_alike which kind subs at at' i offsets
+  referred_alike Unmeant None t kind subs at at' q q' a a' i j k offsets = fails
+  referred_alike (Held v) None t kind subs at at' q q' a a' i j k offsets = alike_then q q' _ _ j (read_same v)
+  referred_alike (Known kind' value) None t kind subs at at' q q' a a' i j k offsets = fails
+  referred_alike (Called unit kind') None t kind subs at at' q q' a a' i j k offsets = function_argued a a' k (f unit) (f' unit) (t refl unit kind' refl)
 
   mutual
     pub value_alike : (e : Expr) → Refers IsSo e → (offsets : List ℤ) → Alike Item (value c e offsets) (value c' e offsets)
@@ -74,7 +74,7 @@ module _ (m : Text → Meant) (f f' : Text → Callee) (IsSo : Text → Type 0)
     value_alike (Boolean b) h offsets = truth_same b
     value_alike (Name x) h offsets = named_same (m x) offsets
     value_alike (Reference x subs) h offsets =
-        referred_alike (m x) (λ unit kind e. alike_callees x unit kind h.0 e) (intrinsic_named x) (kind_in c (Reference x subs)) subs _ _ _ _ _ _
+        referred_alike (m x) (intrinsic_named x) (λ plain unit kind e. alike_callees x unit kind (h.0 plain) e) (kind_in c (Reference x subs)) subs _ _ _ _ _ _
         (λ os. values_alike subs h.1 os) (subscripts_alike subs h.1 offsets) (λ ds g g' a. arguments_alike subs h.1 ds g g' a) offsets
     value_alike (Signed sign e) h offsets = alike_then (value c e offsets) (value c' e offsets) _ _ (value_alike e h offsets) (with_sign_same sign (kind_in c e))
     value_alike (Binary op a b) h offsets =
@@ -194,7 +194,7 @@ module _ (m : Text → Meant) (f f' : Text → Callee) (IsSo : Text → Type 0)
       all_settled_alike args h [] _ _ (λ o i. subroutine_argued (λ ds g. arguments c o ds g) (λ ds g. arguments c' o ds g) (λ ds g g' a. arguments_alike o i ds g g' a) (f unit) (f' unit) (t unit kind refl))
 
   mutual
-    pub meaning_alike : (s : Stmt) → Calls IsSo s → is_undirected s ≡ true → Alike Way (meaning c s) (meaning c' s)
+    pub meaning_alike : (s : Stmt) → Calls IsSo IsSo s → is_undirected s ≡ true → Alike Way (meaning c s) (meaning c' s)
     meaning_alike (Assign left right) h u = tells Turn _ _ (assignment_alike left right h.0 h.1)
     meaning_alike (Call x args forward) h u = tells Turn _ _ (called_alike (m x) (λ unit kind e. alike_callees x unit kind h.0 e) args h.1)
     meaning_alike (If arms other) h u =
@@ -212,24 +212,24 @@ module _ (m : Text → Meant) (f f' : Text → Callee) (IsSo : Text → Type 0)
     meaning_alike Cycle h u = tells Turn _ _ (gives {k = Way} Cycles)
     meaning_alike Return h u = tells Turn _ _ (gives {k = Way} Returns)
 
-    pub meanings_alike : (s : Stmts) → AllCall IsSo s → are_undirected s ≡ true → Alike Way (meanings c s) (meanings c' s)
+    pub meanings_alike : (s : Stmts) → AllCall IsSo IsSo s → are_undirected s ≡ true → Alike Way (meanings c s) (meanings c' s)
     meanings_alike Done h u = gives {k = Way} Normal
     meanings_alike (Then s rest) h u =
         let w = both (is_undirected s) (are_undirected rest) u in
         alike_then (meaning c s) (meaning c' s) _ _ (meaning_alike s h.0 w.0) (λ g. then_run_alike g _ _ (meanings_alike rest h.1 w.1))
 
-    pub first_true_alike : (arms : Arms) → ArmsCall IsSo arms → arms_undirected arms ≡ true → (r r' : Course Way) → Alike Way r r' → Alike Way (first_true c arms r) (first_true c' arms r')
+    pub first_true_alike : (arms : Arms) → ArmsCall IsSo IsSo arms → arms_undirected arms ≡ true → (r r' : Course Way) → Alike Way r r' → Alike Way (first_true c arms r) (first_true c' arms r')
     first_true_alike No_arm h u r r' a = a
     first_true_alike (Arm test body rest) h u r r' a =
         let w = both (are_undirected body) (arms_undirected rest) u in
         tested_alike test h.0 _ _ (λ b. chosen_alike b _ _ _ _ (meanings_alike body h.1 w.0) (first_true_alike rest h.2 w.1 r r' a))
 
-    pub first_holding_alike : (cases : Cases) → CasesCall IsSo cases → cases_undirected cases ≡ true → (n : ℤ) (r r' : Course Way) → Alike Way r r' → Alike Way (first_holding c cases n r) (first_holding c' cases n r')
+    pub first_holding_alike : (cases : Cases) → CasesCall IsSo IsSo cases → cases_undirected cases ≡ true → (n : ℤ) (r r' : Course Way) → Alike Way r r' → Alike Way (first_holding c cases n r) (first_holding c' cases n r')
     first_holding_alike No_case h u n r r' a = a
     first_holding_alike (Case ranges body rest) h u n r r' a =
         let w = both (are_undirected body) (cases_undirected rest) u in
         if_alike (list_any (holds c n) ranges) _ _ _ _ (meanings_alike body h.0 w.0) (first_holding_alike rest h.1 w.1 n r r' a)
 
-    pub otherwise_alike : (o : Otherwise) → OtherwiseCalls IsSo o → otherwise_undirected o ≡ true → Alike Way (meaning_otherwise c o) (meaning_otherwise c' o)
+    pub otherwise_alike : (o : Otherwise) → OtherwiseCalls IsSo IsSo o → otherwise_undirected o ≡ true → Alike Way (meaning_otherwise c o) (meaning_otherwise c' o)
     otherwise_alike Nothing_else h u = gives {k = Way} Normal
     otherwise_alike (Else body) h u = meanings_alike body h u

@@ -1,17 +1,19 @@
--- What statements call: the names in their CALLs, and those that they refer to with parentheses.
+-- What statements call: the names in their CALLs, and those that they refer to with parentheses, but for the intrinsic
+-- functions.
 use Rattle.std.specs.Prelude.{◌≡◌, Option, Some, None, Bool, false, ⊤}
+use Rattle.fort_tree.specs.Intrinsic.{intrinsic_named}
 use Rattle.claw_meaning.specs.Syntax.{Text, Expr, Numeral, Boolean, Name, Reference, Signed, Binary, Paren, Subscripts, No_more, At, Section, Between, Limit, Unbounded, Bounded, Head, Stmt, Assign, Call, If, Select, Do, Block, Piece, Exit, Cycle, Return, Stmts, Done, Then, Arms, No_arm, Arm, Cases, No_case, Case, Otherwise, Nothing_else, Else, Unit, Program}
-use Rattle.claw_meaning.specs.Scope.{Entity, Unknown, Variable, Constant, Procedure, visible, unit_named}
+use Rattle.claw_meaning.specs.Scope.{Entity, Procedure, visible, unit_named}
 use Rattle.claw_meaning.specs.Dependence.{is_column_called}
 
--- each of these names is so
+-- each name that is referred to with parentheses is so
 module _ (IsSo : Text → Type 0) where
   abbrev mutual
     pub Refers : Expr → Type 0
     Refers (Numeral n suffix) = ⊤
     Refers (Boolean b) = ⊤
     Refers (Name x) = ⊤
-    Refers (Reference x subs) = IsSo x × AllRefer subs
+    Refers (Reference x subs) = (intrinsic_named x ≡ None → IsSo x) × AllRefer subs
     Refers (Signed sign e) = Refers e
     Refers (Binary op a b) = Refers a × Refers b
     Refers (Paren e) = Refers e
@@ -33,13 +35,15 @@ module _ (IsSo : Text → Type 0) where
   abbrev pub HeadRefers : Head → Type 0
   HeadRefers h = Refers h.from × Refers h.to × OptionRefers h.step
 
+-- each name in a CALL is so, and each that is referred to is so
+module _ (IsCalled IsReferred : Text → Type 0) where
   abbrev mutual
     pub Calls : Stmt → Type 0
-    Calls (Assign left right) = Refers left × Refers right
-    Calls (Call x args forward) = IsSo x × AllRefer args
+    Calls (Assign left right) = Refers IsReferred left × Refers IsReferred right
+    Calls (Call x args forward) = IsCalled x × AllRefer IsReferred args
     Calls (If arms other) = ArmsCall arms × OtherwiseCalls other
-    Calls (Select e cases other) = Refers e × CasesCall cases × OtherwiseCalls other
-    Calls (Do h body mark) = HeadRefers h × AllCall body
+    Calls (Select e cases other) = Refers IsReferred e × CasesCall cases × OtherwiseCalls other
+    Calls (Do h body mark) = HeadRefers IsReferred h × AllCall body
     Calls (Block d body) = AllCall body
     Calls (Piece body) = AllCall body
     Calls Exit = ⊤
@@ -52,7 +56,7 @@ module _ (IsSo : Text → Type 0) where
 
     pub ArmsCall : Arms → Type 0
     ArmsCall No_arm = ⊤
-    ArmsCall (Arm test body rest) = Refers test × AllCall body × ArmsCall rest
+    ArmsCall (Arm test body rest) = Refers IsReferred test × AllCall body × ArmsCall rest
 
     pub CasesCall : Cases → Type 0
     CasesCall No_case = ⊤
@@ -72,4 +76,4 @@ runs_column p u x = is_column_called (unit_run p (visible p u x))
 
 -- the unit calls no column unit
 abbrev pub CallsPlain : Program → Unit → Type 0
-CallsPlain p u = AllCall (λ x. runs_column p u x ≡ false) u.body
+CallsPlain p u = AllCall (λ x. runs_column p u x ≡ false) (λ x. runs_column p u x ≡ false) u.body

@@ -1,15 +1,12 @@
 -- A program and what is made of it: the same modules, and unit by unit a plain unit regrouped, or any unit in place of a
 -- column unit.
-use Rattle.std.specs.Prelude.{◌≡◌, ℕ, List, [], ◌∷◌, map, Some, Bool, true, false, slice_get}
+use Rattle.std.specs.Prelude.{◌≡◌, ℕ, List, [], ◌∷◌, map, Some, true, false, slice_get}
 use Rattle.std.specs.List.{IsDistinct}
 use Rattle.std.specs.Str.{bytes_eq}
-use Rattle.courses.specs.Plans.{Plan}
-use Rattle.claw_meaning.specs.Syntax.{Text, Decl, Unit, Program}
+use Rattle.claw_meaning.specs.Syntax.{Unit, Program}
 use Rattle.claw_meaning.specs.Scope.{Procedure}
 use Rattle.claw_meaning.specs.Kinds.{kind_of_entity}
 use Rattle.claw_meaning.specs.Units.{is_column_unit}
-use Rattle.claw_meaning.specs.Frames.{Frame}
-use Rattle.claw_meaning.specs.Kept.{KeepsUnit}
 use Rattle.plain_units.specs.Regrouped.{regrouped}
 use Rattle.plain_units.specs.Undirected.{IsUndirected}
 use Rattle.plain_units.specs.Calling.{CallsPlain}

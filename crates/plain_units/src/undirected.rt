@@ -55,7 +55,9 @@ fn is_free(stmt: &Stmt) -> bool
             ..
         } => cases_are_free(arms.items()) && are_undirected(body.items()),
         Stmt::Loop {
-            body, mark: None, ..
+            body,
+            mark: None,
+            ..
         } => are_undirected(body.items()),
         Stmt::Loop { mark: Some(_), .. } | Stmt::Block { .. } | Stmt::Piece(_) => false,
     }
