@@ -1,5 +1,5 @@
 -- The first kind that differs from the first INTEGER kind.
-use Rattle.std.proofs.Common.{◌≡◌, Bool, true, false, ◌&&◌, not, List, [], ◌∷◌, Option, None, Some, if◌then◌else◌, refl, sym, ap, ◌∙◌}
+use Rattle.std.proofs.Common.{◌≡◌, Bool, true, false, ◌&&◌, not, List, [], ◌∷◌, Option, None, Some, if◌then◌else◌, refl}
 use Rattle.fort_arith.specs.declared.kind.Kind.{Kind}
 use Rattle.fort_arith.specs.declared.kind.Kind.TheVariants.{I1, I2, I4, I8, Logical}
 use Rattle.fort_tree.specs.declared.place.Place.{Place}
@@ -12,7 +12,7 @@ use Rattle.sound_programs.specs.Placed.{Expr, first}
 use Rattle.sound_programs.specs.Places.{option_places}
 use Rattle.fort_kinds.specs.declared.differing.Kinds.{Kinds}
 use Rattle.fort_kinds.specs.Gathering.{or_place}
-use Rattle.fort_kinds.specs.KindsSeen.{other_kind, with_kind, with_expr, no_kind, kinds_seen}
+use Rattle.fort_kinds.specs.KindsSeen.{with_kind, no_kind, kinds_seen}
 
 module _ (entity : Text → Entity) where
   abbrev Places_from : Kinds → List Expr → List Place

@@ -9,7 +9,7 @@ use Rattle.fort_tree.specs.declared.expr.Sub as tree_sub
 use Rattle.claw_meaning.specs.Syntax.{Text}
 use Rattle.claw_meaning.specs.Scope.{Entity}
 use Rattle.sound_programs.specs.Places.{option_places}
-use Rattle.sound_programs.specs.Placed.{Subscripts, No_more, One, Section}
+use Rattle.sound_programs.specs.Placed.{No_more}
 use Rattle.sound_programs.specs.Placing.{placed_expr, placed_sub, placed_subs}
 use Rattle.sound_programs.specs.Ranking.{Operand, operand, operands, operands_in, rank_of_first, first_other, differing, count_of_sections}
 use Rattle.fort_kinds.specs.declared.ranking.Ranks.{Ranks}

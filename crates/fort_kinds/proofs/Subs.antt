@@ -7,16 +7,16 @@ use Rattle.fort_arith.specs.contracts.kind.Kind.{the_type as kind_type}
 use Rattle.fort_arith.specs.declared.kind.Kind.{Kind}
 use Rattle.fort_arith.specs.declared.kind.Kind.TheVariants.{I1, I2, I4, I8, Logical}
 use Rattle.fort_tree.specs.declared.expr.Expr as tree_expr
-use Rattle.fort_tree.specs.declared.expr.Expr.TheOpen.{Expr-F, Sub-F}
+use Rattle.fort_tree.specs.declared.expr.Expr.TheOpen.{Sub-F}
 use Rattle.fort_tree.specs.declared.expr.Expr.TheFolds.{fold-roll-Sub, map-Sub}
-use Rattle.fort_tree.specs.declared.expr.Expr.TheViews.{out-Sub, roll-Sub, roll-out-Sub}
+use Rattle.fort_tree.specs.declared.expr.Expr.TheViews.{out-Sub, roll-out-Sub}
 use Rattle.fort_tree.specs.declared.expr.Sub as tree_sub
 use Rattle.fort_tree.specs.declared.place.Place.{Place}
 use Rattle.fort_tree.specs.Same.{same_kind}
 use Rattle.claw_meaning.specs.Syntax.{Text}
 use Rattle.claw_meaning.specs.Scope.{Entity}
 use Rattle.sound_programs.specs.Kinding.{kinds_in, common_kind, is_integer, integer, agreed}
-use Rattle.sound_programs.specs.Placed.{Expr, Subscripts, No_more, One, Section, Limit, Unbounded, Bounded}
+use Rattle.sound_programs.specs.Placed.{Expr, One, Section, Limit}
 use Rattle.sound_programs.specs.Placing.{Before, expr_step, sub_step, limit, placed_expr, placed_sub, placed_subs}
 use Rattle.fort_kinds.specs.OneSub.{kind_of_one, shared_with, agreed_by, shared_after}
 

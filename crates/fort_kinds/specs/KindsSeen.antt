@@ -1,5 +1,5 @@
 -- The INTEGER kinds of expressions, one after the other: the first of them, and the first that differs from it.
-use Rattle.std.specs.Prelude.{List, [], ◌∷◌, Option, None, Some, Bool, if◌then◌else◌}
+use Rattle.std.specs.Prelude.{List, [], ◌∷◌, Option, None, Some, if◌then◌else◌}
 use Rattle.fort_arith.specs.declared.kind.Kind.{Kind}
 use Rattle.fort_tree.specs.declared.place.Place.{Place}
 use Rattle.fort_tree.specs.Same.{same_kind}

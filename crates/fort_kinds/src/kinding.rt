@@ -2,14 +2,15 @@
 ghost use Rattle.std.specs.Prelude.{◌≡◌, []};
 ghost use Rattle.fort_tree.specs.Intrinsic.{intrinsic_named};
 ghost use Rattle.claw_meaning.specs.Kinds.{greater as greater_kind, or_default as kind_or_default};
-ghost use Rattle.sound_programs.specs.Kinding.{kind as kind_meant, kinds_in, kind_of_entity, is_integer as integer_test, is_logical as logical_test, integer as integer_kind, greater_of, agreed as agreed_kind, kind_of_sign as sign_kind, kind_of_operation as operation_kind, common_kind as common, first_kind as first_of, kind_by_bytes as by_bytes, kind_named_by as named_by, kind_by_second as by_second, kind_of_int as int_kind, kind_of_intrinsic as intrinsic_kind, kind_of_reference as reference_kind};
+ghost use Rattle.sound_programs.specs.Kinding.{kind as kind_meant, kinds_in, kind_of_entity, is_integer as integer_test, is_logical as logical_test, integer as integer_kind, greater_of, agreed as agreed_kind, common_kind as common, first_kind as first_of, kind_by_bytes as by_bytes, kind_named_by as named_by, kind_by_second as by_second, kind_of_int as int_kind, kind_of_intrinsic as intrinsic_kind, kind_of_reference as reference_kind};
 ghost use Rattle.sound_programs.specs.Placing.{placed_expr, placed_sub, placed_subs};
 ghost use Rattle.fort_kinds.specs.OneSub.{kind_of_one, shared_with, shared_after};
 ghost use Rattle.fort_names.specs.Sights.{means};
 
 use fort_names::Sight;
-use fort_tree::{ByName, Expr, Intrinsic, Kind, Name, Op, Sub, Unary};
+use fort_tree::{ByName, Expr, Intrinsic, Kind, Name, Sub, Unary};
 
+/// The kind of a literal with this suffix: without one that of 4 bytes.
 pub fn or_default(suffix: Option<Kind>) -> Kind
     ensures { result ≡ kind_or_default suffix }
 {
@@ -67,23 +68,11 @@ fn greater_of_both(a: Option<Kind>, b: Option<Kind>) -> Option<Kind>
     }
 }
 
-fn kind_of_sign(sign: Unary, kind: Option<Kind>) -> Option<Kind>
-    ensures { result ≡ sign_kind sign kind }
+/// The kind of an arithmetic operation on operands of these kinds.
+fn kind_of_both(a: Option<Kind>, b: Option<Kind>) -> Option<Kind>
+    ensures { result ≡ greater_of (integer_kind a) (integer_kind b) }
 {
-    match sign {
-        Unary::Plus | Unary::Minus => integer(kind),
-        Unary::Not => Some(Kind::Logical),
-    }
-}
-
-fn kind_of_operation(op: Op, a: Option<Kind>, b: Option<Kind>) -> Option<Kind>
-    ensures { result ≡ operation_kind op a b }
-{
-    if op.is_arithmetic() {
-        greater_of_both(integer(a), integer(b))
-    } else {
-        Some(Kind::Logical)
-    }
+    greater_of_both(integer(a), integer(b))
 }
 
 fn agreed(a: Option<Kind>, b: Option<Kind>) -> Option<Kind>
@@ -169,9 +158,14 @@ pub fn kind_of(sight: &Sight, expr: &Expr) -> Option<Kind>
         Expr::Truth(..) => Some(Kind::Logical),
         Expr::Ref(name, None, _) => sight.kind(name),
         Expr::Ref(name, Some(subs), _) => kind_of_reference(sight, name, subs.items()),
-        Expr::One(sign, part, _) => kind_of_sign(*sign, kind_of(sight, part.get())),
+        Expr::One(Unary::Plus | Unary::Minus, part, _) => integer(kind_of(sight, part.get())),
+        Expr::One(Unary::Not, _, _) => Some(Kind::Logical),
         Expr::Two(op, left, right) => {
-            kind_of_operation(*op, kind_of(sight, left.get()), kind_of(sight, right.get()))
+            if op.is_arithmetic() {
+                kind_of_both(kind_of(sight, left.get()), kind_of(sight, right.get()))
+            } else {
+                Some(Kind::Logical)
+            }
         }
         Expr::Paren(part, _) => kind_of(sight, part.get()),
     }

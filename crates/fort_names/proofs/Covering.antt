@@ -18,11 +18,11 @@ use Rattle.sound_programs.specs.Scopes.{or_other, origin}
 use Rattle.fort_names.specs.declared.entity.Home.TheVariants as home
 use Rattle.fort_names.specs.Entities.{first_decl, first_unit, declared_by}
 use Rattle.fort_names.specs.NameLists.{has, with_name}
-use Rattle.fort_names.specs.Tables.{columns_of, declared_of, declared_in, at_number, origin_by_name, lines_origin, nowhere, rounds, origins}
+use Rattle.fort_names.specs.Tables.{columns_of, declared_of, declared_in, at_number, origin_by_name, lines_origin, module_origin, nowhere, rounds, origins}
 use Rattle.fort_names.specs.Sharing.{inserted, with_modules, given_names, shared_of, row_of, or_no_row}
 use Rattle.fort_names.proofs.Places.{passing, some_position, any_map, any_append, get_map}
 use Rattle.fort_names.proofs.Tabled.{equal_names, either_way, in_module_found, some_decl, some_unit}
-use Rattle.fort_names.proofs.Given.{Same, origins_same, one_step, row_at}
+use Rattle.fort_names.proofs.Given.{Same, origins_same, row_at}
 
 or_group : (a b c : Bool) → ((a || b) || c) ≡ (a || (b || c))
 or_group true b c = refl
@@ -134,7 +134,7 @@ module _ (f : File) (x : Text) (absent : has (given_names f) x ≡ false) where
   no_rounds (suc k) i = row_at (declared_of f) f.modules (rounds (declared_of f) f.modules k x) x i ∙ go (slice_get f.modules i) (no_rounds k)
     where
       go : (o : Option tree_module.Module) → ((j : ℕ) → at_number (rounds (declared_of f) f.modules k x) j ≡ None)
-          → option_and_then (one_step (declared_of f) (rounds (declared_of f) f.modules k x) x i) o ≡ None
+          → option_and_then (module_origin (declared_of f) (rounds (declared_of f) f.modules k x) x i) o ≡ None
       go None before = refl
       go (Some m) before =
           ap (λ b. if b then Some i else lines_origin (declared_of f).names (rounds (declared_of f) f.modules k x) m.uses x) (none_declares i)

@@ -18,7 +18,7 @@ use Rattle.sound_programs.specs.Scopes.{or_other, declares, origin_used, origin_
 use Rattle.fort_names.specs.declared.homes.Declared.{Declared}
 use Rattle.fort_names.specs.declared.entity.Home.TheVariants as home
 use Rattle.fort_names.specs.Entities.{first_decl, first_unit, declared_by, module_number}
-use Rattle.fort_names.specs.Tables.{columns_of, declared_of, declared_in, at_number, origin_by_name, lines_origin, next_row, nowhere, rounds, origins}
+use Rattle.fort_names.specs.Tables.{columns_of, declared_of, declared_in, at_number, origin_by_name, lines_origin, module_origin, next_row, nowhere, rounds, origins}
 use Rattle.fort_names.proofs.Places.{position_map, passing, some_position, some_find, any_map, get_map, length_map}
 use Rattle.fort_names.proofs.Tabled.{equal_names, number_is, in_module_found, some_decl, some_unit}
 
@@ -76,22 +76,19 @@ q_module f n =
 
 -- ---- rows
 
-abbrev pub one_step : Declared → List (Option ℕ) → Text → ℕ → tree_module.Module → Option ℕ
-one_step d row x n m = if is_some (declared_in d n x) then Some n else lines_origin d.names row m.uses x
-
-get_row : (d : Declared) (n : ℕ) (ms : List tree_module.Module) (row : List (Option ℕ)) (x : Text) (i : ℕ) → slice_get (next_row d n ms row x) i ≡ option_map (one_step d row x (n + i)) (slice_get ms i)
+get_row : (d : Declared) (n : ℕ) (ms : List tree_module.Module) (row : List (Option ℕ)) (x : Text) (i : ℕ) → slice_get (next_row d n ms row x) i ≡ option_map (module_origin d row x (n + i)) (slice_get ms i)
 get_row d n [] row x i = refl
-get_row d n (m ∷ ms) row x zero = let e : n ≡ n + 0 = omega arith in ap (λ k. Some (one_step d row x k m)) e
+get_row d n (m ∷ ms) row x zero = let e : n ≡ n + 0 = omega arith in ap (λ k. Some (module_origin d row x k m)) e
 get_row d n (m ∷ ms) row x (suc i) =
     let e : n + 1 + i ≡ n + suc i = omega arith in
-    get_row d (n + 1) ms row x i ∙ ap (λ k. option_map (one_step d row x k) (slice_get ms i)) e
+    get_row d (n + 1) ms row x i ∙ ap (λ k. option_map (module_origin d row x k) (slice_get ms i)) e
 
-pub row_at : (d : Declared) (ms : List tree_module.Module) (row : List (Option ℕ)) (x : Text) (i : ℕ) → at_number (next_row d 0 ms row x) i ≡ option_and_then (one_step d row x i) (slice_get ms i)
+pub row_at : (d : Declared) (ms : List tree_module.Module) (row : List (Option ℕ)) (x : Text) (i : ℕ) → at_number (next_row d 0 ms row x) i ≡ option_and_then (module_origin d row x i) (slice_get ms i)
 row_at d ms row x i = ap (option_and_then (λ o. o)) (get_row d 0 ms row x i) ∙ go (slice_get ms i)
   where
-    go : (o : Option tree_module.Module) → option_and_then (λ o'. o') (option_map (one_step d row x (0 + i)) o) ≡ option_and_then (one_step d row x i) o
+    go : (o : Option tree_module.Module) → option_and_then (λ o'. o') (option_map (module_origin d row x (0 + i)) o) ≡ option_and_then (module_origin d row x i) o
     go None = refl
-    go (Some m) = let e : 0 + i ≡ i = omega arith in ap (λ k. one_step d row x k m) e
+    go (Some m) = let e : 0 + i ≡ i = omega arith in ap (λ k. module_origin d row x k m) e
 
 nothing_at_first : (ms : List tree_module.Module) (i : ℕ) → at_number (nowhere ms) i ≡ None
 nothing_at_first [] i = refl
@@ -134,11 +131,11 @@ module _ (f : File) (x : Text) where
           let numbered : module_number f p.item.name ≡ Some n = ap (module_number f) named ∙ e in
           let here : module_at (bare_program (placed f)) (Some n) ≡ Some (bare_module (placed_module p.item)) =
           q_module f n ∙ ap (option_map (λ a. bare_module (placed_module a))) p.is in
-          let step : at_number (next_row (declared_of f) 0 f.modules row x) n ≡ one_step (declared_of f) row x n p.item =
-          row_at (declared_of f) f.modules row x n ∙ ap (option_and_then (one_step (declared_of f) row x n)) p.is in
+          let step : at_number (next_row (declared_of f) 0 f.modules row x) n ≡ module_origin (declared_of f) row x n p.item =
+          row_at (declared_of f) f.modules row x n ∙ ap (option_and_then (module_origin (declared_of f) row x n)) p.is in
           subst (Same f x (origin_in (bare_program (placed f)) (Some n) (module_at (bare_program (placed f)) (Some n)) (origin_within (bare_program (placed f)) k) x)) (sym step)
-          (subst (λ a. Same f x (origin_in (bare_program (placed f)) (Some n) a (origin_within (bare_program (placed f)) k) x) (one_step (declared_of f) row x n p.item)) (sym here)
-          (subst (λ b. Same f x (if b then Some p.item.name else origin_used (origin_within (bare_program (placed f)) k) (map bare_use p.item.uses) x) (one_step (declared_of f) row x n p.item))
+          (subst (λ a. Same f x (origin_in (bare_program (placed f)) (Some n) a (origin_within (bare_program (placed f)) k) x) (module_origin (declared_of f) row x n p.item)) (sym here)
+          (subst (λ b. Same f x (if b then Some p.item.name else origin_used (origin_within (bare_program (placed f)) k) (map bare_use p.item.uses) x) (module_origin (declared_of f) row x n p.item))
           (sym (declares_is f x n p.item p.is))
           (by p.item (is_some (declared_in (declared_of f) n x)) refl numbered)))
         where

@@ -4,6 +4,7 @@ pub mod Rounds
 pub mod Places
 pub mod Tabled
 pub mod Given
+pub mod Passes
 pub mod Covering
 pub mod Fitting
 pub mod Seeing

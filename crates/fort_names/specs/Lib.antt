@@ -1,6 +1,7 @@
 pub mod NameLists
 pub mod Entities
 pub mod Tables
+pub mod Links
 pub mod Sharing
 pub mod Finding
 pub mod Scoping

@@ -91,10 +91,14 @@ lines_origin names row (line ∷ lines) x =
     or_other (if brings (plain_use line) x then origin_by_name names row line.name else None)
     (lines_origin names row lines x)
 
+-- by the declarations of the module of the number, and then by its USE lines
+abbrev pub module_origin : Declared → List (Option ℕ) → Text → ℕ → tree_module.Module → Option ℕ
+module_origin d row x n m = if is_some (declared_in d n x) then Some n else lines_origin d.names row m.uses x
+
 -- one USE further than the row
 abbrev pub next_row : Declared → ℕ → List tree_module.Module → List (Option ℕ) → Text → List (Option ℕ)
 next_row d n [] row x = []
-next_row d n (m ∷ ms) row x = (if is_some (declared_in d n x) then Some n else lines_origin d.names row m.uses x) ∷ next_row d (n + 1) ms row x
+next_row d n (m ∷ ms) row x = module_origin d row x n m ∷ next_row d (n + 1) ms row x
 
 abbrev pub nowhere : List tree_module.Module → List (Option ℕ)
 nowhere ms = map (λ m. None) ms

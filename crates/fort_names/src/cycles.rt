@@ -12,7 +12,10 @@ ghost use Rattle.fort_names.specs.Circles.{links_after, links_by, links_of_modul
 ghost use Rattle.fort_names.specs.Leasts.{noted};
 ghost use Rattle.fort_names.specs.NameLists.{has};
 
+use crate::firsts::Firsts;
+use crate::homes::module_names;
 use crate::least::{Least, is_earlier};
+use crate::links::order_of;
 use crate::name_set::NameSet;
 use fort_tree::{Code, File, Module, Name, NoMemory, Place, Use};
 use indexmap::IndexMap;
@@ -71,14 +74,27 @@ fn raise(ranks: &mut IndexMap<Name, usize>, links: &[Link]) -> Result<bool, NoMe
     Ok(raised)
 }
 
-/// Ranks for modules. Whether they fall along each line is tested afterwards.
+/// For each module its place in an order in which each stands behind all that it uses. The modules that lead to a cycle have none.
+fn places_in_order(alloc: Global, modules: &[Module]) -> Result<IndexMap<Name, usize>, NoMemory> {
+    let names = Firsts::of(alloc, module_names(alloc, modules)?)?;
+    let order = order_of(alloc, &names, modules)?;
+    let mut places = IndexMap::new(alloc);
+    for (place, number) in order.iter().enumerate() {
+        if let Some(one) = modules.get(*number) {
+            places.insert(one.name, place.saturating_add(1))?;
+        }
+    }
+    Ok(places)
+}
+
+/// Ranks for modules. Whether they fall along each line is tested afterwards. Without cycles, and where no two modules have one name, they do so from the start.
 fn ranks_of(
     alloc: Global,
+    modules: &[Module],
     links: &[Link],
-    turns: usize,
 ) -> Result<IndexMap<Name, usize>, NoMemory> {
-    let mut ranks = IndexMap::new(alloc);
-    for _turn in 0..turns {
+    let mut ranks = places_in_order(alloc, modules)?;
+    for _turn in 0..modules.len() {
         if !raise(&mut ranks, links)? {
             return Ok(ranks);
         }
@@ -177,8 +193,9 @@ fn note_links(alloc: Global, least: &mut Least, links: &[Link]) -> Result<(), No
 pub fn note_cycles(alloc: Global, least: &mut Least, file: &File) -> Result<(), NoMemory>
     ensures { OnOk result (least.new ≡ noted (found E34 (first_on_cycle (placed file.now))) least.old) }
 {
-    let links = links_of(alloc, file.modules.items())?;
-    let ranks = ranks_of(alloc, links.as_slice(), file.modules.len())?;
+    let modules = file.modules.items();
+    let links = links_of(alloc, modules)?;
+    let ranks = ranks_of(alloc, modules, links.as_slice())?;
     if !is_falling(&ranks, links.as_slice()) {
         note_links(alloc, least, links.as_slice())?;
     }

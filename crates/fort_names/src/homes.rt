@@ -23,7 +23,8 @@ pub struct Declared {
     pub module_entities: Seq<Entity>,
 }
 
-fn module_names(alloc: Global, modules: &[Module]) -> Result<Vec<Name>, NoMemory>
+/// The names of the modules, in their order.
+pub fn module_names(alloc: Global, modules: &[Module]) -> Result<Vec<Name>, NoMemory>
     ensures { IfOk result (λ names. names.items ≡ map (λ m. m.name) modules.now) }
 {
     let mut names = Vec::new(alloc);

@@ -13,6 +13,7 @@ mod homes;
 mod intents;
 mod laws;
 mod least;
+mod links;
 mod meaning;
 mod name_set;
 mod rows;

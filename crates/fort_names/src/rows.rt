@@ -1,8 +1,11 @@
 //! Which module declares what each module gives.
-ghost use Rattle.std.specs.Prelude.{◌≡◌, IfOk, IsTrue};
+ghost use Rattle.std.specs.Prelude.{◌≡◌, IfOk, IsTrue, length, slice_get};
+ghost use Rattle.std.specs.Option.{option_and_then};
 ghost use Rattle.claw_meaning.specs.Plain.{plain_use};
 ghost use Rattle.claw_meaning.specs.Scope.{brings as brings_test};
-ghost use Rattle.fort_names.specs.Tables.{lines_origin as origin_by_lines, next_row as one_further, nowhere as no_module, origins as all_origins, origin_by_name, at_number};
+ghost use Rattle.numbered_graph.specs.Graphs.{IsOrder};
+ghost use Rattle.fort_names.specs.Links.{links_among};
+ghost use Rattle.fort_names.specs.Tables.{lines_origin as origin_by_lines, next_row as one_further, module_origin as origin_by_module, nowhere as no_module, origins as all_origins, origin_by_name, at_number};
 
 use crate::columns::is_named;
 use crate::firsts::Firsts;
@@ -54,6 +57,22 @@ pub fn number_at(row: &[Option<usize>], number: usize) -> Option<usize>
     row.get(number).copied()?
 }
 
+/// What the module of the number gives, by the row for the modules that it uses.
+fn module_origin(
+    declared: &Declared,
+    row: &[Option<usize>],
+    name: &Name,
+    number: usize,
+    one: &Module,
+) -> Option<usize>
+    ensures { result ≡ origin_by_module declared.now row.now name.now number one.now }
+{
+    match declared.in_module(number, name) {
+        Some(_) => Some(number),
+        None => lines_origin(&declared.names, row, one.uses.items(), name),
+    }
+}
+
 fn next_row(
     alloc: Global,
     declared: &Declared,
@@ -65,11 +84,7 @@ fn next_row(
 {
     let mut next = Seq::new(alloc);
     for (number, module) in modules.iter().enumerate() {
-        let origin = match declared.in_module(number, name) {
-            Some(_) => Some(number),
-            None => lines_origin(&declared.names, row, module.uses.items(), name),
-        };
-        next.push(origin)?;
+        next.push(module_origin(declared, row, name, number, module))?;
     }
     Ok(next)
 }
@@ -108,4 +123,54 @@ pub fn origins(
         row = next;
     }
     Ok(row)
+}
+
+fn origin_at(
+    declared: &Declared,
+    modules: &[Module],
+    row: &[Option<usize>],
+    name: &Name,
+    number: usize,
+) -> Option<usize>
+    ensures { result ≡ option_and_then (origin_by_module declared.now row.now name.now number) (slice_get modules.now number) }
+{
+    module_origin(declared, row, name, number, modules.get(number)?)
+}
+
+/// The same in one pass, where all modules stand in the order.
+fn one_pass(
+    alloc: Global,
+    declared: &Declared,
+    modules: &[Module],
+    order: &[usize],
+    name: &Name,
+) -> Result<Seq<Option<usize>>, NoMemory>
+    requires order { IsOrder (links_among declared.now.names modules.now) order.now }
+    requires whole { length order.now ≡ length modules.now }
+    ensures { IfOk result (λ row. row ≡ all_origins declared.now modules.now name.now) }
+{
+    let mut row = nowhere(alloc, modules)?.into_vec();
+    for number in order {
+        let origin = origin_at(declared, modules, row.as_slice(), name, *number);
+        row[*number] = origin;
+    }
+    Ok(Seq::from_vec(row))
+}
+
+/// The same, by an order of the modules that lead to no cycle. Where all do so, the time is linear in modules and USE lines.
+pub fn origins_in_order(
+    alloc: Global,
+    declared: &Declared,
+    modules: &[Module],
+    order: &[usize],
+    name: &Name,
+) -> Result<Seq<Option<usize>>, NoMemory>
+    requires { IsOrder (links_among declared.now.names modules.now) order.now }
+    ensures { IfOk result (λ row. row ≡ all_origins declared.now modules.now name.now) }
+{
+    if order.len() == modules.len() {
+        one_pass(alloc, declared, modules, order, name)
+    } else {
+        origins(alloc, declared, modules, name)
+    }
 }

@@ -1,11 +1,12 @@
 //! What all scopes of a file share.
-ghost use Rattle.std.specs.Prelude.{◌≡◌, IfOk, OnOk, map};
+ghost use Rattle.std.specs.Prelude.{◌≡◌, IfOk, OnOk, map, length};
 ghost use Rattle.fort_names.specs.Tables.{origins as all_origins};
 ghost use Rattle.fort_names.specs.Sharing.{inserted, with_modules, given_names, row_of as row_in, shared_of, gives as gives_name};
 
 use crate::homes::Declared;
+use crate::links::order_of;
 use crate::name_set::NameSet;
-use crate::rows::{origin_of, origins};
+use crate::rows::{origin_of, origins_in_order};
 use fort_tree::{Decl, File, Module, Name, NoMemory, Seq, Unit};
 use std::alloc::Global;
 
@@ -61,11 +62,13 @@ fn all_rows(
     modules: &[Module],
     names: &[Name],
 ) -> Result<Seq<Seq<Option<usize>>>, NoMemory>
+    requires { length declared.now.names ≡ length modules.now }
     ensures { IfOk result (λ rows. rows ≡ map (all_origins declared.now modules.now) names.now) }
 {
+    let order = order_of(alloc, &declared.names, modules)?;
     let mut rows = Seq::new(alloc);
     for name in names {
-        rows.push(origins(alloc, declared, modules, name)?)?;
+        rows.push(origins_in_order(alloc, declared, modules, order.as_slice(), name)?)?;
     }
     Ok(rows)
 }

@@ -1,7 +1,7 @@
 use Rattle.std.proofs.Common.{◌≡◌, ◌++◌, drop}
 use Rattle.fort_kinds.specs.Sites.{placed_sites}
 use Rattle.fort_names.specs.Sights.{means}
-use Rattle.sound_programs.specs.Walks.{call_site, is_function_site, parts, reference}
+use Rattle.sound_programs.specs.Walks.{call_site, is_function_site, reference}
 use Rattle.std.specs.List.{filter}
 use Rattle.std.specs.Prelude.{flat_map}
 use Rattle.unit_steps.specs.Behind.{exprs, placed_step}

@@ -1,0 +1,12 @@
+pub mod SharesAre
+pub mod WritesAre
+pub mod Merging
+pub mod ModuleWritesAre
+pub mod Inserting
+pub mod AliasesAre
+pub mod BehindAre
+pub mod Onwards
+pub mod InOrder
+pub mod Marked
+pub mod FromCallees
+pub mod NamedUpTo

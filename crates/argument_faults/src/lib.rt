@@ -1,0 +1,19 @@
+//! Faults of actual arguments: variables that a call would reach by two ways, and writes to what may not be written.
+#![tactic(auto)]
+
+mod actuals;
+mod behind;
+mod file_faults;
+mod marks;
+mod module_names;
+mod module_writes;
+mod reached;
+mod shared;
+#[cfg(test)]
+mod tests;
+mod unit_faults;
+mod variable_set;
+mod writes;
+mod writes_reached;
+
+pub use file_faults::{note_aliases, note_writes};

@@ -1,0 +1,9 @@
+pub mod Arguments
+pub mod Places
+pub mod Fits
+pub mod Overlaps
+pub mod Apart
+pub mod Columns
+pub mod Decls
+pub mod Seeking
+pub mod Logicals

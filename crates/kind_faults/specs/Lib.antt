@@ -1,0 +1,7 @@
+pub mod Needs
+pub mod Holders
+pub mod Fitting
+pub mod Cases
+pub mod Counts
+pub mod InScopes
+pub mod Spans
