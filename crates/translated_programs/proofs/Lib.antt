@@ -1,3 +1,11 @@
 mod NamesAre
-mod ColumnUnits
 mod Steps
+mod Lists
+mod Walking
+mod Lefts
+mod DistinctNames
+mod Seen
+mod PlainCalls
+mod BuiltUnits
+mod SoundUnits
+mod Translating

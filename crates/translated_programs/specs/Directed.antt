@@ -4,9 +4,6 @@ use Rattle.fort_tree.specs.declared.place.Place.{Place}
 use Rattle.fort_tree.specs.Unplaced.{nowhere}
 use Rattle.claw_meaning.specs.Syntax.{Text}
 use Rattle.sound_programs.specs.Placed.{Directive, Stmt, Assign, Call, If, Select, Do, Block, Piece, Exit, Cycle, Return, Stmts, Done, Then, Arms, No_arm, Arm, Cases, No_case, Case, Otherwise, Nothing_else, Else}
-use Rattle.fort_tree.specs.declared.stmt.Directive as tree_directive
-use Rattle.fort_tree.specs.declared.stmt.DirectiveWord.{DirectiveWord}
-use Rattle.std.specs.List.{list_any}
 use Rattle.scalar_units.specs.Unbuilt.{unless}
 
 abbrev pub place_of_mark : Option Directive → List Place
@@ -44,7 +41,3 @@ module _ (is_column : Text → Bool) where
     pub directed_in_otherwise : Otherwise → List Place
     directed_in_otherwise Nothing_else = []
     directed_in_otherwise (Else body) = directed_in body
-
--- one of the directives has such a word
-abbrev pub has_directive : (DirectiveWord → Bool) → List tree_directive.Directive → Bool
-has_directive is marks = list_any (λ d. is d.word) marks

@@ -1,2 +1,4 @@
 pub mod Directed
 pub mod NotBuilt
+pub mod Translated
+pub mod UnitLaws

@@ -1,6 +1,6 @@
 -- Where a program isn't one that is translated: its column units are units of column scalars, and its other units hold no
 -- directives and no calls of column units.
-use Rattle.std.specs.Prelude.{List, [], ◌∷◌, ◌++◌, map, flat_map, Option, None, Some, Bool, true, not, ◌&&◌, is_none, if◌then◌else◌}
+use Rattle.std.specs.Prelude.{List, [], ◌∷◌, ◌++◌, map, flat_map, Option, Some, Bool, true, not, ◌&&◌, is_none, if◌then◌else◌}
 use Rattle.std.specs.List.{filter, list_any, list_all}
 use Rattle.std.specs.Str.{bytes_eq}
 use Rattle.fort_tree.specs.declared.place.Place.{Place}

@@ -5,8 +5,15 @@
 
 mod columns;
 mod directed;
+mod laws;
+mod translation;
 mod unbuilt;
 mod unit_names;
 
 pub use columns::is_column_unit;
+pub use laws::sound_programs_are_translated;
+pub use translation::translated;
 pub use unbuilt::first_unbuilt;
+
+#[cfg(test)]
+mod tests;

@@ -1,0 +1,28 @@
+-- The program that is made of a program of which nothing is unbuilt.
+use Rattle.std.specs.Prelude.{◌≡◌, ℕ, map, Option, None, Some, Bool, true, false, slice_get, if◌then◌else◌}
+use Rattle.fort_tree.specs.declared.unit.Unit as tree
+use Rattle.claw_meaning.specs.Syntax.{Text, Unit, Program}
+use Rattle.claw_meaning.specs.Plain.{plain_unit}
+use Rattle.claw_meaning.specs.Units.{is_column_unit, is_listed}
+use Rattle.column_scalars.specs.Widened.{HasDimension, widened}
+use Rattle.plain_units.specs.Regrouped.{regrouped}
+
+-- a column unit for all columns, and any other unit as it is written
+abbrev pub translated_unit : Unit → Unit
+translated_unit u = if is_column_unit u then widened u else regrouped u
+
+abbrev pub translated : Program → Program
+translated p = record { modules = p.modules; units = map translated_unit p.units; order = p.order }
+
+-- the wide variables of a column unit are its dummies, and no other unit has any
+abbrev pub wide_of : Option Unit → Text → Bool
+wide_of None x = false
+wide_of (Some u) x = if is_column_unit u then is_listed u.dummies x else false
+
+-- the wide variables of the unit of that number
+abbrev pub wide_in : Program → ℕ → Text → Bool
+wide_in p i = wide_of (slice_get p.units i)
+
+-- a column unit has a first directive, which names the dimension
+abbrev pub HasItsDimension : tree.Unit → Type 0
+HasItsDimension u = is_column_unit (plain_unit u) ≡ true → HasDimension u
