@@ -1,3 +1,4 @@
+pub mod Elements
 mod Texts
 mod Cutting
 mod Laying
@@ -15,12 +16,12 @@ mod Keywords
 mod Parts
 mod Lists
 mod Declarations
-mod Outs
+pub mod Outs
 mod Statements
 mod Standing
 mod Plain
 mod Marks
-mod PrintedTrees
+pub mod PrintedTrees
 mod Bodies
 mod Heads
 mod UnitsRead
@@ -37,4 +38,8 @@ mod TextsTaken
 mod WideSums
 mod WideForms
 mod WidePrinted
+pub mod FreeNames
+pub mod DefineNames
+pub mod LineForms
+pub mod ScalarUnits
 mod SourcesWritten

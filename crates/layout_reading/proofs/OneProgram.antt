@@ -23,21 +23,9 @@ use Rattle.sound_programs.specs.Nesting.{Nests, Nests_from, no_more, module_firs
 use Rattle.layout_reading.specs.FormLines.{TokenLine, HaveForms, no_form, form}
 use Rattle.layout_reading.specs.Programs.{AreFile, token_line}
 use Rattle.layout_reading.proofs.Declarations.{Each}
+use Rattle.layout_reading.proofs.Elements.{first_none, second_none, some_none}
 use Rattle.layout_reading.proofs.FirstTokens.{IsHeaded}
 use Rattle.layout_reading.proofs.OneForm.{Gives, a_statement, a_mark, gives, AreBuilt, AskOnce, one_list}
-
--- LISTS
-
-pub first_none : {A : Type 0} (k l : List A) → k ++ l ≡ [] → k ≡ []
-first_none [] l e = refl
-first_none (x ∷ k) l e = absurd cc
-
-pub second_none : {A : Type 0} (k l : List A) → k ++ l ≡ [] → l ≡ []
-second_none [] l e = e
-second_none (x ∷ k) l e = absurd cc
-
-pub some_none : {A : Type 0} {x : A} {l : List A} → x ∷ l ≡ [] → ⊥
-some_none e = cc
 
 -- A LINE
 

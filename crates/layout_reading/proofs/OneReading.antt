@@ -17,7 +17,8 @@ use Rattle.sound_programs.specs.Forms as forms
 use Rattle.sound_programs.specs.Forms.{Form, Says}
 use Rattle.layout_reading.specs.Readings.{HasToken}
 use Rattle.layout_reading.proofs.OneForm.{AskOnce}
-use Rattle.layout_reading.proofs.OneProgram.{NestOnce, first_none, second_none, some_none}
+use Rattle.layout_reading.proofs.Elements.{first_none, second_none, some_none}
+use Rattle.layout_reading.proofs.OneProgram.{NestOnce}
 
 no_token : (tokens : List Token) → 0 < length tokens → tokens ≡ [] → ⊥
 no_token tokens h e = let k = ap (λ (ts : List Token). length ts) e in omega (arith, h, k)

@@ -99,3 +99,6 @@ plain_an_arm e b rest = ap (λ (f : MoreArms). f rest) (fold-roll-Arm plain.Stmt
 
 pub plain_a_case : (l : List Range) (b : List Stmt) (rest : plain.Cases) → plain_case (case l b) rest ≡ plain.Case (map p.plain_range l) (p.plain_stmts b) rest
 plain_a_case l b rest = ap (λ (f : MoreCases). f rest) (fold-roll-Case plain.Stmt MoreArms MoreCases p.stmt_step p.arm_step p.case_step (record { ranges = l; body = b }))
+
+pub plain_block : (at : Place) (d : Directive) (b : List Stmt) → p.plain_stmt (stmt.Block at d b) ≡ plain.Block (p.plain_directive d) (p.plain_stmts b)
+plain_block at d b = ap p.plain_stmt (sym (stmt.rolls-Block at d b)) ∙ fold-roll-Stmt plain.Stmt MoreArms MoreCases p.stmt_step p.arm_step p.case_step (Stmt-F.Block at d b)

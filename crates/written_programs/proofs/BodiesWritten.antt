@@ -20,9 +20,9 @@ use Rattle.claw_meaning.specs.Syntax as plain
 use Rattle.sound_programs.specs.Forms.{Form, Says, is_range}
 use Rattle.sound_programs.specs.Nesting as nesting
 use Rattle.sound_programs.specs.Nesting.{Inside, in_loop, arm, case, Simple, Body, One, Arms, Cases}
+use Rattle.layout_reading.proofs.PrintedTrees
+use Rattle.layout_reading.proofs.PrintedTrees.{plain_arm, plain_case}
 use Rattle.written_programs.proofs.NoDirectives.{Undirected, StmtsAreUndirected, ArmsAreUndirected, CasesAreUndirected, OtherwiseIsUndirected}
-use Rattle.written_programs.proofs.PlainStatements
-use Rattle.written_programs.proofs.PlainStatements.{plain_arm, plain_case}
 use Rattle.written_programs.proofs.SaidForms.{IsSaid, place_said, AreSaid, Lined, say}
 
 -- ---- Parts before other forms
@@ -68,12 +68,12 @@ record CasesAgain (around : Inside) (cases : List Case) (other : Option (List St
 -- ---- Simple statements
 
 again : {around : Inside} {at : Place} {said : Statement-F Statement} {s : Stmt} (p : Place) → Simple around at said s → SimpleAgain around p said s
-again {at = at} p (nesting.assigns l r e) = record { stmt = tree.Assign p l r; is = nesting.assigns l r e; same = PlainStatements.plain_assign p l r ∙ sym (PlainStatements.plain_assign at l r) }
+again {at = at} p (nesting.assigns l r e) = record { stmt = tree.Assign p l r; is = nesting.assigns l r e; same = PrintedTrees.plain_assign p l r ∙ sym (PrintedTrees.plain_assign at l r) }
 again {at = at} p (nesting.calls name args) =
-    record { stmt = tree.Call p name args false; is = nesting.calls name args; same = PlainStatements.plain_call p name args false ∙ sym (PlainStatements.plain_call at name args false) }
-again {at = at} p (nesting.exits e) = record { stmt = tree.Exit p; is = nesting.exits e; same = PlainStatements.plain_exit p ∙ sym (PlainStatements.plain_exit at) }
-again {at = at} p (nesting.cycles e) = record { stmt = tree.Cycle p; is = nesting.cycles e; same = PlainStatements.plain_cycle p ∙ sym (PlainStatements.plain_cycle at) }
-again {at = at} p (nesting.returns e) = record { stmt = tree.Return p; is = nesting.returns e; same = PlainStatements.plain_return p ∙ sym (PlainStatements.plain_return at) }
+    record { stmt = tree.Call p name args false; is = nesting.calls name args; same = PrintedTrees.plain_call p name args false ∙ sym (PrintedTrees.plain_call at name args false) }
+again {at = at} p (nesting.exits e) = record { stmt = tree.Exit p; is = nesting.exits e; same = PrintedTrees.plain_exit p ∙ sym (PrintedTrees.plain_exit at) }
+again {at = at} p (nesting.cycles e) = record { stmt = tree.Cycle p; is = nesting.cycles e; same = PrintedTrees.plain_cycle p ∙ sym (PrintedTrees.plain_cycle at) }
+again {at = at} p (nesting.returns e) = record { stmt = tree.Return p; is = nesting.returns e; same = PrintedTrees.plain_return p ∙ sym (PrintedTrees.plain_return at) }
 
 -- ---- Statements
 
@@ -82,13 +82,13 @@ abbrev Passed : List Form → (List Form → Type 0) → Type 0
 Passed rest Again = AreSaid rest × ((t : List Form) → Again t)
 
 undirected_if : (at : Place) (arms : List Arm) (other : Option (List Stmt)) → Undirected (plain_stmt (tree.If at arms other)) → ArmsAreUndirected (arms_of (map plain_arm arms)) × OtherwiseIsUndirected (otherwise (option_map (map plain_stmt) other))
-undirected_if at arms other u = subst Undirected (PlainStatements.plain_if at arms other) u
+undirected_if at arms other u = subst Undirected (PrintedTrees.plain_if at arms other) u
 
 undirected_arm : (test : Expr) (body : List Stmt) (rest : plain.Arms) → ArmsAreUndirected (plain_arm (arm test body) rest) → StmtsAreUndirected (plain_stmts body) × ArmsAreUndirected rest
-undirected_arm test body rest u = subst ArmsAreUndirected (PlainStatements.plain_an_arm test body rest) u
+undirected_arm test body rest u = subst ArmsAreUndirected (PrintedTrees.plain_an_arm test body rest) u
 
 undirected_case : (ranges : List Range) (body : List Stmt) (rest : plain.Cases) → CasesAreUndirected (plain_case (case ranges body) rest) → StmtsAreUndirected (plain_stmts body) × CasesAreUndirected rest
-undirected_case ranges body rest u = subst CasesAreUndirected (PlainStatements.plain_a_case ranges body rest) u
+undirected_case ranges body rest u = subst CasesAreUndirected (PrintedTrees.plain_a_case ranges body rest) u
 
 more_again : {around : Inside} {s : Stmt} {ss : List Stmt} {rest : List Form} (b : BodyAgain around ss rest) → OneAgain around s b.forms → BodyAgain around (s ∷ ss) rest
 more_again {s = s} b a = record {
@@ -113,29 +113,29 @@ action_again {at = at} {place = place} {test = test} {action = action} {s = s} s
       forms = Says (place_said said) (Statement-F.IfAction test place action) ∷ t;
       nest = nesting.if_action x;
       lined = say said;
-      same = PlainStatements.plain_if (place_said said) arms None ∙ sym (PlainStatements.plain_if at arms None);
+      same = PrintedTrees.plain_if (place_said said) arms None ∙ sym (PrintedTrees.plain_if at arms None);
     }
 
 same_if : (p q : Place) (arms some : List Arm) (other last : Option (List Stmt)) → arms_of (map plain_arm some) ≡ arms_of (map plain_arm arms) → otherwise (option_map (map plain_stmt) last) ≡ otherwise (option_map (map plain_stmt) other) →
     plain_stmt (tree.If p some last) ≡ plain_stmt (tree.If q arms other)
 same_if p q arms some other last h k =
-    PlainStatements.plain_if p some last
+    PrintedTrees.plain_if p some last
     ∙ (ap (λ a. plain.If a (otherwise (option_map (map plain_stmt) last))) h
-    ∙ (ap (plain.If (arms_of (map plain_arm arms))) k ∙ sym (PlainStatements.plain_if q arms other)))
+    ∙ (ap (plain.If (arms_of (map plain_arm arms))) k ∙ sym (PrintedTrees.plain_if q arms other)))
 
 same_arms : (test : Expr) (body stmts : List Stmt) (arms some : List Arm) → plain_stmts stmts ≡ plain_stmts body → arms_of (map plain_arm some) ≡ arms_of (map plain_arm arms) →
     arms_of (map plain_arm (arm test stmts ∷ some)) ≡ arms_of (map plain_arm (arm test body ∷ arms))
 same_arms test body stmts arms some h k =
-    PlainStatements.plain_an_arm test stmts (arms_of (map plain_arm some))
+    PrintedTrees.plain_an_arm test stmts (arms_of (map plain_arm some))
     ∙ (ap (λ b. plain.Arm (plain_expr test) b (arms_of (map plain_arm some))) h
-    ∙ (ap (plain.Arm (plain_expr test) (plain_stmts body)) k ∙ sym (PlainStatements.plain_an_arm test body (arms_of (map plain_arm arms)))))
+    ∙ (ap (plain.Arm (plain_expr test) (plain_stmts body)) k ∙ sym (PrintedTrees.plain_an_arm test body (arms_of (map plain_arm arms)))))
 
 same_cases : (ranges : List Range) (body stmts : List Stmt) (cases some : List Case) → plain_stmts stmts ≡ plain_stmts body → cases_of (map plain_case some) ≡ cases_of (map plain_case cases) →
     cases_of (map plain_case (case ranges stmts ∷ some)) ≡ cases_of (map plain_case (case ranges body ∷ cases))
 same_cases ranges body stmts cases some h k =
-    PlainStatements.plain_a_case ranges stmts (cases_of (map plain_case some))
+    PrintedTrees.plain_a_case ranges stmts (cases_of (map plain_case some))
     ∙ (ap (λ b. plain.Case (map plain_range ranges) b (cases_of (map plain_case some))) h
-    ∙ (ap (plain.Case (map plain_range ranges) (plain_stmts body)) k ∙ sym (PlainStatements.plain_a_case ranges body (cases_of (map plain_case cases)))))
+    ∙ (ap (plain.Case (map plain_range ranges) (plain_stmts body)) k ∙ sym (PrintedTrees.plain_a_case ranges body (cases_of (map plain_case cases)))))
 
 if_again : {around : Inside} (at : Place) {test : Expr} {body : List Stmt} {arms : List Arm} {other : Option (List Stmt)} {t : List Form} → IsSaid (Statement-F.IfThen test) → (a : ArmsAgain around arms other t) → BodyAgain around body a.forms →
     OneAgain around (tree.If at (arm test body ∷ arms) other) t
@@ -179,9 +179,9 @@ select_again at {on = on} {cases = cases} {other = other} said c = record {
   forms = Says (place_said said) (Statement-F.Select on) ∷ c.forms;
   nest = nesting.selects c.nest;
   lined = λ l. say said (c.lined l);
-  same = PlainStatements.plain_select (place_said said) on c.some c.last
+  same = PrintedTrees.plain_select (place_said said) on c.some c.last
       ∙ (ap (λ x. plain.Select (plain_expr on) x (otherwise (option_map (map plain_stmt) c.last))) c.same
-      ∙ (ap (plain.Select (plain_expr on) (cases_of (map plain_case cases))) c.last_same ∙ sym (PlainStatements.plain_select at on cases other)));
+      ∙ (ap (plain.Select (plain_expr on) (cases_of (map plain_case cases))) c.last_same ∙ sym (PrintedTrees.plain_select at on cases other)));
 }
 
 case_again : {around : Inside} {ranges : List Range} {body : List Stmt} {cases : List Case} {other : Option (List Stmt)} {t : List Form} → IsSaid (Statement-F.Case ranges) → IsTrue (list_all is_range ranges) →
@@ -219,7 +219,7 @@ loop_again at {head = head} {body = body} said e b = record {
   forms = Says (place_said said) (Statement-F.Do head) ∷ b.forms;
   nest = nesting.loops b.nest;
   lined = λ l. say said (b.lined (say e l));
-  same = PlainStatements.plain_loop (place_said said) head b.stmts None ∙ (ap (λ x. plain.Do (plain_head head) x None) b.same ∙ sym (PlainStatements.plain_loop at head body None));
+  same = PrintedTrees.plain_loop (place_said said) head b.stmts None ∙ (ap (λ x. plain.Do (plain_head head) x None) b.same ∙ sym (PrintedTrees.plain_loop at head body None));
 }
 
 module _ (mode : Mode) where
@@ -233,7 +233,7 @@ module _ (mode : Mode) where
 
     one_again : {around : Inside} {forms rest : List Form} {s : Stmt} → One mode around forms s rest → Undirected (plain_stmt s) → AreSaid forms → Passed rest (OneAgain around s)
     one_again (nesting.simple x) u h = (h.1, λ t. simple_again h.0 x t)
-    one_again (nesting.forwarded {at = at} {name = name} {args = args} w) u h = absurd (true≢false (subst Undirected (PlainStatements.plain_call at name args true) u))
+    one_again (nesting.forwarded {at = at} {name = name} {args = args} w) u h = absurd (true≢false (subst Undirected (PrintedTrees.plain_call at name args true) u))
     one_again (nesting.if_action x) u h = (h.1, λ t. action_again h.0 x t)
     one_again (nesting.if_then {at = at} {test = test} {body = body} {arms = arms} {other = other} inside others) u h =
         let v = undirected_if at (arm test body ∷ arms) other u in
@@ -242,16 +242,16 @@ module _ (mode : Mode) where
         let a = arms_again others w.1 v.1 b.0 in
         (a.0, λ t. if_again at h.0 (a.1 t) (b.1 (a.1 t).forms))
     one_again (nesting.selects {at = at} {on = on} {cases = cases} {other = other} inside) u h =
-        let v : CasesAreUndirected (cases_of (map plain_case cases)) × OtherwiseIsUndirected (otherwise (option_map (map plain_stmt) other)) = subst Undirected (PlainStatements.plain_select at on cases other) u in
+        let v : CasesAreUndirected (cases_of (map plain_case cases)) × OtherwiseIsUndirected (otherwise (option_map (map plain_stmt) other)) = subst Undirected (PrintedTrees.plain_select at on cases other) u in
         let c = cases_again inside v.0 v.1 h.1 in (c.0, λ t. select_again at h.0 (c.1 t))
     one_again (nesting.loops {at = at} {head = head} {body = body} inside) u h =
-        let v : StmtsAreUndirected (plain_stmts body) × (None ≡ None) = subst Undirected (PlainStatements.plain_loop at head body None) u in
+        let v : StmtsAreUndirected (plain_stmts body) × (None ≡ None) = subst Undirected (PrintedTrees.plain_loop at head body None) u in
         let b = body_again inside v.0 h.1 in
         (b.0.1, λ t. loop_again at h.0 b.0.0 (b.1 (Says (place_said b.0.0) Statement-F.EndDo ∷ t)))
     one_again (nesting.directed {d = d} {at = at} {head = head} {body = body} w inside) u h =
-        let v : StmtsAreUndirected (plain_stmts body) × (Some (plain_directive d) ≡ None) = subst Undirected (PlainStatements.plain_loop at head body (Some d)) u in
+        let v : StmtsAreUndirected (plain_stmts body) × (Some (plain_directive d) ≡ None) = subst Undirected (PrintedTrees.plain_loop at head body (Some d)) u in
         let e = v.1 in absurd cc
-    one_again (nesting.block {d = d} {body = body} w v inside) u h = absurd (subst Undirected (PlainStatements.plain_block d.at d body) u)
+    one_again (nesting.block {d = d} {body = body} w v inside) u h = absurd (subst Undirected (PrintedTrees.plain_block d.at d body) u)
 
     arms_again : {around : Inside} {forms rest : List Form} {arms : List Arm} {other : Option (List Stmt)} → Arms mode around forms arms other rest → ArmsAreUndirected (arms_of (map plain_arm arms)) →
         OtherwiseIsUndirected (otherwise (option_map (map plain_stmt) other)) → AreSaid forms → Passed rest (ArmsAgain around arms other)

@@ -1,5 +1,5 @@
 -- Each declaration of a line is one by itself: its type, its attributes and its entity alone are a line.
-use Rattle.std.proofs.Common.{◌≡◌, List, [], ◌∷◌, ◌++◌, Option, None, map}
+use Rattle.std.proofs.Common.{◌≡◌, List, [], ◌∷◌, Option, None}
 use Rattle.std.specs.List.{AllByRecursion}
 use Rattle.fort_arith.specs.declared.kind.Kind.{Kind}
 use Rattle.fort_tree.specs.declared.expr.Expr.{Expr}
@@ -15,7 +15,8 @@ use Rattle.fort_stmt.specs.Form as f
 use Rattle.fort_stmt.specs.Form.{IsWords, IsKind, IsType, IsBound, IsBoundOption, IsDimension, IsShape, IsOwnShape, IsInitial, IsEntity, IsEntities, IsConstant, IsConstants, IsIntent, IsIntentAttribute, IsDimensionAttribute, IsAttributes, IsDeclaration, declared}
 use Rattle.fort_stmt.specs.declared.value.Entity.{Entity}
 use Rattle.layout_reading.specs.WideUnits.{IsFreeName}
-use Rattle.written_programs.proofs.FreeNames.{token_free}
+use Rattle.layout_reading.proofs.Elements.{each_append, each_mapped}
+use Rattle.layout_reading.proofs.FreeNames.{HasFreeName, token_free}
 
 -- Tokens that are this before any others
 pub record Alone {A : Type 0} (R : List Token → List Token → A → Type 0) (a : A) : Type 0 where
@@ -119,10 +120,6 @@ one_constant c p b t h i j e = record { put = λ y. t.put (e.put y); is = λ y. 
 before_attributes : {k : Kind} (c p b : Token) → Alone IsType k → Alone (λ w z (n : Kind). IsType w (c ∷ p ∷ b ∷ z) n) k
 before_attributes c p b t = record { put = λ y. t.put (c ∷ p ∷ b ∷ y); is = λ y. t.is (c ∷ p ∷ b ∷ y) }
 
-pub each_append : {A : Type 0} (P : A → Type 0) (xs ys : List A) → AllByRecursion P xs → AllByRecursion P ys → AllByRecursion P (xs ++ ys)
-each_append P [] ys h k = k
-each_append P (x ∷ xs) ys h k = (h.0, each_append P xs ys h.1 k)
-
 entities_alone : {w z : List Token} {l : List Entity} → IsEntities w z l → AllByRecursion (Alone IsEntity) l
 entities_alone (f.first_entity e) = (entity_alone e, tt)
 entities_alone (f.next_entity {l = l} {d = d} c es h e) = each_append (Alone IsEntity) l (d ∷ []) (entities_alone es) (entity_alone e, tt)
@@ -130,10 +127,6 @@ entities_alone (f.next_entity {l = l} {d = d} c es h e) = each_append (Alone IsE
 constants_alone : {w z : List Token} {l : List Entity} → IsConstants w z l → AllByRecursion (Alone IsConstant) l
 constants_alone (f.first_constant e) = (constant_alone e, tt)
 constants_alone (f.next_constant {l = l} {d = d} c es h e) = each_append (Alone IsConstant) l (d ∷ []) (constants_alone es) (constant_alone e, tt)
-
-pub each_mapped : {A B : Type 0} (P : A → Type 0) (Q : B → Type 0) (g : A → B) (xs : List A) → ((x : A) → P x → Q (g x)) → AllByRecursion P xs → AllByRecursion Q (map g xs)
-each_mapped P Q g [] h k = tt
-each_mapped P Q g (x ∷ xs) h k = (h x k.0, each_mapped P Q g xs h k.1)
 
 pub declarations_alone : {w z : List Token} {l : List Decl} → IsDeclaration w z l → AllByRecursion IsAlone l
 declarations_alone (f.variables {k = k} {i = i} {l = l} {d = d} t a e) =
@@ -146,10 +139,6 @@ pub result_alone : {w z : List Token} {k : Kind} (n : Token) → IsType w z k �
 result_alone n t h = one_variable (type_alone t) (record { put = λ y. y; is = λ y. f.no_attribute }) (record { put = λ y. n ∷ y; is = λ y. f.entity n h f.no_shape })
 
 -- ---- Names
-
--- a declaration's name is free
-abbrev pub HasFreeName : Decl → Type 0
-HasFreeName d = IsFreeName d.name
 
 abbrev EntityFree : Entity → Type 0
 EntityFree e = IsFreeName e.name

@@ -14,8 +14,8 @@ use Rattle.claw_meaning.specs.Syntax as plain
 use Rattle.sound_programs.specs.Forms.{Form}
 use Rattle.sound_programs.specs.Nesting as nesting
 use Rattle.sound_programs.specs.Nesting.{IsUnit, AreUnits, Contained, IsModule, Nests_from}
+use Rattle.layout_reading.proofs.Elements.{each_append}
 use Rattle.written_programs.proofs.Behind.{head_left, unit_left, module_left}
-use Rattle.written_programs.proofs.DeclaredAlone.{each_append}
 use Rattle.written_programs.proofs.LinesSaid.{program_said}
 use Rattle.written_programs.proofs.SaidForms.{IsSaidForm, AreSaid}
 

@@ -1,7 +1,3 @@
-mod PlainStatements
-mod FirstLevels
-mod FreeNames
-mod DefineNames
 mod DeclaredAlone
 mod SaidForms
 mod NoDirectives
@@ -14,6 +10,5 @@ mod ProgramsWritten
 mod LinesSaid
 mod EachUnit
 mod PlainUnits
-mod ScalarUnits
 mod WideUnits
 mod UnitByUnit

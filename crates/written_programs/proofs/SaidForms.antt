@@ -10,7 +10,7 @@ use Rattle.sound_programs.specs.Forms.{Form, Says, Directs}
 use Rattle.fort_stmt.specs.Form.{IsStatement}
 use Rattle.layout_reading.specs.FormLines as line
 use Rattle.layout_reading.specs.FormLines.{TokenLine, HaveForms}
-use Rattle.written_programs.proofs.DefineNames.{DefinesFreeNames}
+use Rattle.layout_reading.proofs.DefineNames.{DefinesFreeNames}
 
 -- tokens are a statement of this level
 pub record IsSaid (level : Statement-F Statement) : Type 0 where

@@ -14,12 +14,14 @@ use Rattle.layout_reading.specs.Programs.{IsPrintableFile}
 use Rattle.plain_units.specs.Regrouped.{regrouped}
 use Rattle.plain_units.specs.Undirected.{IsUndirected}
 use Rattle.layout_reading.specs.WideUnits.{WideUnitsPrintable}
+use Rattle.layout_reading.proofs.ScalarUnits.{unit_ok}
 use Rattle.written_programs.specs.Writable.{CanBeWritten, CanReplace, IsWrittenAs, as_it_is, for_all_columns, UnitByUnit, all_regrouped}
 use Rattle.written_programs.proofs.EachUnit.{IsSaidUnit, all_units}
+use Rattle.written_programs.proofs.HeaderForms.{said_gives}
 use Rattle.written_programs.proofs.LinesSaid.{program_said}
 use Rattle.written_programs.proofs.PlainUnits.{can_regroup}
 use Rattle.written_programs.proofs.ProgramsWritten.{program_again}
-use Rattle.written_programs.proofs.ScalarUnits.{unit_ok}
+use Rattle.written_programs.proofs.SaidForms.{IsSaidForm}
 use Rattle.written_programs.proofs.WideUnits.{wide_unit_written}
 
 pub replaced_program : (lines : List Line) (file written : File) → IsProgram lines file → UnitByUnit CanReplace (plain_file file) (plain_file written) → IsPrintableFile written
@@ -42,7 +44,7 @@ module _ (printable : WideUnitsPrintable) (mode : Mode) where
   one_replaced x e s (as_it_is n) = (refl, can_regroup mode s n)
   one_replaced {u = u} {t = t} x e s (for_all_columns c is h k) =
       let host = λ (v : plain.Unit). v.host in
-      let w = wide_unit_written printable c x is (unit_ok mode c is s.nest s.said (s.same ∙ h)) (e ∙ k) in
+      let w = wide_unit_written printable c x is (unit_ok IsSaidForm said_gives mode c is s.nest s.said (s.same ∙ h)) (e ∙ k) in
       (ap host k ∙ sym (ap host h), subst CanBeWritten (sym k) w)
 
   all_replaced : (us : List plain.Unit) (xs : List tree_unit.Unit) → AllByRecursion (IsSaidUnit mode) us → AllZip IsWrittenAs us (map plain_unit xs) → AllZip CanReplace us (map plain_unit xs)

@@ -21,28 +21,18 @@ use Rattle.claw_meaning.specs.Syntax as plain
 use Rattle.claw_meaning.specs.Units.{directive_of, is_word_define, is_word_parallelize}
 use Rattle.sound_programs.specs.Forms.{Form, Says, is_entity}
 use Rattle.sound_programs.specs.Nesting as nesting
-use Rattle.sound_programs.specs.Nesting.{Uses, Implicit, Declares, Marked, Head-part, Ends, IsUnit, Body, in_unit}
+use Rattle.sound_programs.specs.Nesting.{Uses, Implicit, Declares, Marked, Head-part, Ends, IsUnit, in_unit}
 use Rattle.plain_units.specs.Regrouped.{regrouped}
 use Rattle.plain_units.specs.Undirected.{IsUndirected}
+use Rattle.layout_reading.proofs.Elements.{each_append, each_mapped, first_none, second_none, some_none}
 use Rattle.written_programs.proofs.NoDirectives.{all_undirected}
 use Rattle.written_programs.specs.Writable.{CanBeWritten}
 use Rattle.written_programs.proofs.BodiesWritten.{BodyAgain, body_again}
-use Rattle.written_programs.proofs.DeclaredAlone.{IsAlone, each_append, each_mapped}
+use Rattle.written_programs.proofs.DeclaredAlone.{IsAlone}
 use Rattle.written_programs.proofs.HeaderForms.{CanDeclare, CanDeclareResult, result_named, say_alone, said_otherwise, say_end, end_stands}
 use Rattle.written_programs.proofs.SaidForms.{IsSaid, AreSaid, Lined, no_lines, place_said, say}
 
 -- ---- Lists
-
-pub first_none : {A : Type 0} (k l : List A) → k ++ l ≡ [] → k ≡ []
-first_none [] l e = refl
-first_none (x ∷ k) l e = absurd cc
-
-pub second_none : {A : Type 0} (k l : List A) → k ++ l ≡ [] → l ≡ []
-second_none [] l e = e
-second_none (x ∷ k) l e = absurd cc
-
-pub some_none : {A : Type 0} {x : A} {l : List A} → x ∷ l ≡ [] → ⊥
-some_none e = cc
 
 map_none : {A B : Type 0} (g : A → B) (l : List A) → map g l ≡ [] → l ≡ []
 map_none g [] e = refl

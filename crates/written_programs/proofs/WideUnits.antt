@@ -15,9 +15,12 @@ use Rattle.sound_programs.specs.Nesting as nesting
 use Rattle.sound_programs.specs.Nesting.{IsUnit, Nests_from}
 use Rattle.column_scalars.specs.Scalars.{Scalars, IsScalars, source_unit, wide_unit, program_of}
 use Rattle.layout_reading.specs.WideUnits.{AreWritable, WideUnitsPrintable}
+use Rattle.layout_reading.proofs.Elements.{one_item, more_items}
+use Rattle.layout_reading.proofs.ScalarUnits.{unit_ok}
 use Rattle.written_programs.specs.Writable.{CanBeWritten}
 use Rattle.written_programs.proofs.EachUnit.{a_unit}
-use Rattle.written_programs.proofs.ScalarUnits.{unit_ok}
+use Rattle.written_programs.proofs.HeaderForms.{said_gives}
+use Rattle.written_programs.proofs.SaidForms.{IsSaidForm}
 
 -- ---- A file of one unit
 
@@ -26,12 +29,6 @@ record OneUnit (v : plain.Unit) (forms : List Form) : Type 0 where
   tree : tree_unit.Unit
   nest : IsUnit Target None forms tree []
   same : plain_unit tree ≡ v
-
-first_item : {A : Type 0} {x y : A} {k l : List A} → x ∷ k ≡ y ∷ l → x ≡ y
-first_item e = cc
-
-other_items : {A : Type 0} {x y : A} {k l : List A} → x ∷ k ≡ y ∷ l → k ≡ l
-other_items e = cc
 
 none_left : {m n : ℕ} {fs : List Form} {ms : List Module} {us : List tree_unit.Unit} {order : List tree_item.Item} → Nests_from Target m n fs ms us order → map plain_module ms ≡ [] → map plain_unit us ≡ [] → fs ≡ []
 none_left nesting.no_more e h = refl
@@ -42,7 +39,7 @@ one_unit : {m n : ℕ} {fs : List Form} {ms : List Module} {us : List tree_unit.
 one_unit v nesting.no_more e h = absurd cc
 one_unit v (nesting.module_first a others) e h = absurd cc
 one_unit {fs = fs} v (nesting.unit_first {a = a} x others) e h =
-    record { tree = a; nest = subst (IsUnit Target None fs a) (none_left others e (other_items h)) x; same = first_item h }
+    record { tree = a; nest = subst (IsUnit Target None fs a) (none_left others e (more_items h)) x; same = one_item h }
 
 abbrev file_of : tree_unit.Unit → File
 file_of x = record { modules = []; units = x ∷ []; order = item.Unit 0 ∷ [] }
@@ -57,7 +54,7 @@ wide_unit_written printable u x s w e =
 -- ---- Among other units
 
 pub scalars_writable : (lines : List Line) (file : File) (u : Scalars) → IsScalars u → IsProgram lines file → Contains (plain_file file).units (source_unit u) → AreWritable u
-scalars_writable lines file u s p c = let x = a_unit (source_unit u) p c in unit_ok (mode_of lines) u s x.nest x.said x.same
+scalars_writable lines file u s p c = let x = a_unit (source_unit u) p c in unit_ok IsSaidForm said_gives (mode_of lines) u s x.nest x.said x.same
 
 mapped_at : {A B : Type 0} (g : A → B) (xs : List A) (y : B) (k : ℕ) → k < length (map g xs) → slice_index_or (map g xs) k y ≡ y → (x : A) × (g x ≡ y)
 mapped_at g [] y k h e = absurd (omega arith)

@@ -1,5 +1,5 @@
 -- The names of a `define` that a line gives are free names.
-use Rattle.std.proofs.Common.{◌≡◌, ℕ, List, ◌∷◌, Option, None, Some, true, option_map, refl, sym, ap, ◌∙◌, subst}
+use Rattle.std.proofs.Common.{◌≡◌, ℕ, List, Option, None, Some, true, option_map, refl, sym, ap, ◌∙◌, subst}
 use Rattle.std.specs.List.{AllByRecursion}
 use Rattle.std.proofs.lemmas.Bool.{true≢false}
 use Rattle.fort_arith.specs.declared.kind.Kind.{Kind}
@@ -18,16 +18,12 @@ use Rattle.claw_meaning.specs.Syntax as plain
 use Rattle.claw_meaning.proofs.PlainTrees.{plain_number, plain_name}
 use Rattle.column_scalars.specs.Scalars.{define}
 use Rattle.layout_reading.specs.WideUnits.{IsFreeName}
-use Rattle.written_programs.proofs.FreeNames.{item_name, free_of_mark}
+use Rattle.layout_reading.proofs.Elements.{one_item}
+use Rattle.layout_reading.proofs.FreeNames.{free_of_mark}
+use Rattle.layout_reading.proofs.Marks.{item_name}
 
 unfoldable pub DefinesFreeNames : Directive → Type 0
 DefinesFreeNames d = (id : plain.Text) (lower : ℕ) (upper : plain.Text) → plain_directive d ≡ define id lower upper → IsFreeName id × IsFreeName upper
-
-pub one_item : {A : Type 0} {x y : A} {xs ys : List A} → x ∷ xs ≡ y ∷ ys → x ≡ y
-one_item e = cc
-
-more_items : {A : Type 0} {x y : A} {xs ys : List A} → x ∷ xs ≡ y ∷ ys → xs ≡ ys
-more_items e = cc
 
 some_item : {A : Type 0} {x y : A} → Some x ≡ Some y → x ≡ y
 some_item e = cc
