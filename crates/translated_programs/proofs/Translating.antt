@@ -26,7 +26,7 @@ use Rattle.plain_units.specs.Translated.{TranslatesUnit, plain, TranslatesUnits,
 use Rattle.sound_programs.specs.Laws.{Each}
 use Rattle.sound_programs.specs.Sound.{Sound}
 use Rattle.translated_programs.specs.NotBuilt.{unbuilt}
-use Rattle.translated_programs.specs.Translated.{translated, translated_unit, wide_in, wide_of}
+use Rattle.translated_programs.specs.Translated.{translated, translated_unit, wide_in, wide_of, IsTranslatable, as_it_is, for_all_columns, AreTranslatable}
 use Rattle.translated_programs.specs.UnitLaws.{UnitLaws}
 use Rattle.translated_programs.proofs.Lists.{each_at}
 use Rattle.translated_programs.proofs.SoundUnits.{Stands, a_column, a_plain, all_stand}
@@ -176,3 +176,14 @@ is_made laws mode file t sound none is =
     let stand = all_stand laws.built mode file sound none laws.standing in
     subst (IsMade s) (sym is)
     (record { interface = interface_is laws s stand; erased = erased_is laws s stand; spread = spread_is laws s stand; kept = kept_is laws s stand; orderly = orderly_is laws s stand })
+
+-- ---- Each unit by itself
+
+translatable : UnitLaws → (p : Program) (u : Unit) → Stands p u → IsTranslatable u
+translatable laws p _ (a_column s is there once) = for_all_columns s is refl (laws.widened_is s)
+translatable laws p u (a_plain off is) = as_it_is is.undirected (ap (λ b. if b then widened u else regrouped u) off)
+
+pub are_translatable : UnitLaws → (mode : Mode) (file : File) → Sound mode file → unbuilt file ≡ [] → AreTranslatable (plain_file file)
+are_translatable laws mode file sound none i u at =
+    let s = plain_file file in
+    translatable laws s u (each_at (Stands s) s.units i u (all_stand laws.built mode file sound none laws.standing) at)

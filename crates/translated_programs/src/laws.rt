@@ -13,7 +13,7 @@ ghost use Rattle.claw_meaning.specs.Spread.{Spread};
 ghost use Rattle.claw_meaning.specs.Syntax.{Program};
 ghost use Rattle.sound_programs.specs.Sound.{Sound};
 ghost use Rattle.translated_programs.specs.NotBuilt.{unbuilt};
-ghost use Rattle.translated_programs.specs.Translated.{translated, wide_in};
+ghost use Rattle.translated_programs.specs.Translated.{AreTranslatable, translated, wide_in};
 ghost use Rattle.translated_programs.specs.UnitLaws.{UnitLaws};
 
 use column_scalars::{
@@ -32,6 +32,14 @@ pub fn sound_programs_are_translated()
     ensures spread { (mode : Mode) (file : File) (target : Program) → Sound mode file → unbuilt file ≡ [] → target ≡ translated (plain_file file) → Spread (plain_file file) target (wide_in (plain_file file)) (λ i x. false) Cpu Plain }
     ensures kept { (mode : Mode) (file : File) (target : Program) → Sound mode file → unbuilt file ≡ [] → target ≡ translated (plain_file file) → (plan : Plan) → Kept (plain_file file) target plan }
     ensures orderly { (mode : Mode) (file : File) (target : Program) → Sound mode file → unbuilt file ≡ [] → target ≡ translated (plain_file file) → (plan : Plan) → Orderly (plain_file file) target plan }
+{
+    laws_of_units();
+}
+
+/// Each unit of a sound program of which nothing is unbuilt has no directives, and is translated to itself with its declarations in their groups, or is one of column scalars,
+/// and is translated to the unit for all columns.
+pub fn units_are_translated()
+    ensures { (mode : Mode) (file : File) → Sound mode file → unbuilt file ≡ [] → AreTranslatable (plain_file file) }
 {
     laws_of_units();
 }

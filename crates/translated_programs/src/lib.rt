@@ -11,7 +11,7 @@ mod unbuilt;
 mod unit_names;
 
 pub use columns::is_column_unit;
-pub use laws::sound_programs_are_translated;
+pub use laws::{sound_programs_are_translated, units_are_translated};
 pub use translation::translated;
 pub use unbuilt::first_unbuilt;
 
