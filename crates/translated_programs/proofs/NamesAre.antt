@@ -1,5 +1,5 @@
 -- What sets of names tell of units.
-use Rattle.std.proofs.Common.{◌≡◌, List, [], Bool, Option, None, refl, sym, ap, ◌∙◌, subst}
+use Rattle.std.proofs.Common.{◌≡◌, List, [], Bool, Option, None, ap, ◌∙◌}
 use Rattle.std.specs.Prelude.{flat_map, MatchOption}
 use Rattle.std.specs.List.{filter, list_any}
 use Rattle.std.specs.Str.{bytes_eq}
@@ -11,7 +11,7 @@ use Rattle.fort_names.specs.Sharing.{inserted}
 use Rattle.fort_names.proofs.Covering.{has_inserted}
 use Rattle.scalar_units.specs.Unbuilt.{IsFirst, noted}
 use Rattle.scalar_units.proofs.Firsts.{first_is}
-use Rattle.translated_programs.specs.NotBuilt.{is_column, is_external, names_of, names_column_unit, names_external_unit, of_any_unit, unbuilt}
+use Rattle.translated_programs.specs.NotBuilt.{is_column, is_external, names_of, names_column_unit, of_any_unit, unbuilt}
 
 -- the set that has just these names
 has_these : (names : List Text) → has (inserted [] names) ≡ (λ x. list_any (bytes_eq x) names)
