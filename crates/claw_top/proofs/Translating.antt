@@ -1,146 +1,89 @@
--- What is made of a source is a translation of it.
-use Rattle.std.proofs.Common.{◌≡◌, ℕ, refl, sym, ap, ◌∙◌, subst, List, [], ◌∷◌, Some, None, Bool, false, ◌⊎◌, inl, inr, length, arith}
-use Rattle.std.specs.Prelude.{is_some}
-use Rattle.std.proofs.lemmas.Bool.{false≢true}
+-- What is made of the sources is a translation of them.
+use Rattle.std.proofs.Common.{◌≡◌, ℕ, zero, suc, List, [], ◌∷◌, map, Some, None, Bool, false, refl, sym, ap, ◌∙◌, subst, length}
+use Rattle.std.specs.Prelude.{slice_get}
+use Rattle.std.proofs.lemmas.List.{length-map}
+use Rattle.std.specs.List.{AllZip}
+use Rattle.courses.specs.Plans.{Plan}
+use Rattle.fort_tree.specs.declared.choice.Mode.TheVariants.{Source}
 use Rattle.fort_tree.specs.declared.choice.Target.TheVariants.{Cpu}
 use Rattle.fort_tree.specs.declared.choice.Directives.TheVariants.{Plain}
+use Rattle.fort_tree.specs.declared.statement.Line.{Line}
 use Rattle.fort_tree.specs.declared.unit.File.{File}
-use Rattle.fort_tree.specs.declared.unit.Unit.{Unit as TreeUnit}
 use Rattle.claw_meaning.specs.Syntax.{Text, Unit, Program}
-use Rattle.claw_meaning.specs.Plain.{plain_file, plain_unit}
-use Rattle.claw_meaning.specs.Units.{is_listed}
+use Rattle.claw_meaning.specs.Plain.{plain_file}
 use Rattle.claw_meaning.specs.Interface.{Interface}
 use Rattle.claw_meaning.specs.Erasure.{Erased}
 use Rattle.claw_meaning.specs.Spread.{Spread}
-use Rattle.claw_meaning.specs.Kept.{Kept}
-use Rattle.column_scalars.specs.Scalars.{Scalars, IsScalars, source_unit, wide_unit, program_of}
-use Rattle.column_scalars.specs.Widened.{widened}
-use Rattle.column_scalars.proofs.WideUnits.{widened_is}
-use Rattle.column_scalars.proofs.Source.{source_does}
-use Rattle.column_scalars.proofs.Wide.{wide_does}
-use Rattle.column_scalars.proofs.Columnwise.{are_columnwise}
-use Rattle.column_scalars.proofs.Keeping.{keeps_columns_from}
-use Rattle.column_scalars.proofs.Referring.{interface_kept}
-use Rattle.column_scalars.proofs.Erasing.{erased_to_source}
-use Rattle.column_scalars.proofs.Spreading.{statements_spread}
+use Rattle.claw_meaning.specs.Kept.{Kept, Orderly}
 use Rattle.fort_spell.specs.Units.{layout_of}
-use Rattle.fort_tree.specs.declared.statement.Line.{Line}
-use Rattle.column_scalars.specs.Widened.{HasDimension}
-use Rattle.fort_units.specs.Program.{IsProgram, mode_of}
-use Rattle.scalar_units.specs.Scalars.{IsScalarsUnit, OneUnit}
-use Rattle.scalar_units.specs.Unbuilt.{unbuilt}
-use Rattle.scalar_units.proofs.Built.{built_is}
-use Rattle.sound_programs.specs.Nesting.{no_more}
-use Rattle.layout_reading.specs.FormLines.{no_form}
+use Rattle.fort_units.specs.Program.{IsProgram}
 use Rattle.layout_reading.specs.Programs.{IsPrintableFile, Spells}
-use Rattle.layout_reading.specs.WideUnits.{SourcesWritable, WideUnitsPrintable}
-use Rattle.claw_top.specs.Connected.{IsConnected}
+use Rattle.sound_programs.specs.Sound.{Sound}
+use Rattle.translated_programs.specs.NotBuilt.{unbuilt}
+use Rattle.translated_programs.specs.Translated.{translated, translated_unit, wide_in, IsTranslatable, as_it_is, for_all_columns, AreTranslatable}
+use Rattle.written_programs.specs.Writable.{IsWrittenAs, UnitByUnit}
+use Rattle.written_programs.specs.Writable as writable
 use Rattle.claw_top.specs.Sources.{HaveLines}
-use Rattle.claw_top.proofs.OneUnit.{is_no_unit, is_one_unit}
-use Rattle.claw_top.specs.Translation.{AreSpelled, no_unit, one_unit, Translation}
+use Rattle.claw_top.specs.Translation.{Translation}
 
--- ---- how texts are read
-
--- what the laws of texts say
-pub record TextLaws : Type 0 where
+-- what the laws of translated programs and of texts say
+pub record Laws : Type 0 where
+  pub units : (file : File) → Sound Source file → unbuilt file ≡ [] → AreTranslatable (plain_file file)
+  pub interface : (file : File) (t : Program) → Sound Source file → unbuilt file ≡ [] → t ≡ translated (plain_file file) → Interface (plain_file file) t (wide_in (plain_file file))
+  pub erased : (file : File) (t : Program) → Sound Source file → unbuilt file ≡ [] → t ≡ translated (plain_file file) → Erased (plain_file file) t (wide_in (plain_file file))
+  pub spread : (file : File) (t : Program) → Sound Source file → unbuilt file ≡ [] → t ≡ translated (plain_file file) → Spread (plain_file file) t (wide_in (plain_file file)) (λ i x. false) Cpu Plain
+  pub kept : (file : File) (t : Program) → Sound Source file → unbuilt file ≡ [] → t ≡ translated (plain_file file) → (plan : Plan) → Kept (plain_file file) t plan
+  pub orderly : (file : File) (t : Program) → Sound Source file → unbuilt file ≡ [] → t ≡ translated (plain_file file) → (plan : Plan) → Orderly (plain_file file) t plan
+  pub by_number : (us ts : List Unit) → length ts ≡ length us → ((i : ℕ) (u t : Unit) → slice_get us i ≡ Some u → slice_get ts i ≡ Some t → IsWrittenAs u t) → AllZip IsWrittenAs us ts
+  pub printable : (lines : List Line) (source written : File) → IsProgram lines source → UnitByUnit IsWrittenAs (plain_file source) (plain_file written) → IsPrintableFile written
   pub read : (number : ℕ) (file : File) → IsPrintableFile file → Spells number (layout_of file) file
   pub alone : (number : ℕ) (file other : File) → IsPrintableFile file → Spells number (layout_of file) other → plain_file other ≡ plain_file file
-  pub printable : WideUnitsPrintable
-  pub spelled : SourcesWritable
 
-none_printable : IsPrintableFile no_unit
-none_printable = record { lines = []; forms = []; written = no_unit; have = no_form; nest = no_more; same = refl }
+-- ---- each unit is written
 
-unit_printable : TextLaws → (sources : List (List ℕ)) (u w : TreeUnit) (s : Scalars) → AreSpelled sources (one_unit u) → IsScalars s → plain_unit u ≡ source_unit s → plain_unit w ≡ wide_unit s →
-    IsPrintableFile (one_unit w)
-unit_printable laws sources u w s spelled is plain wide =
-    laws.printable s (one_unit w) is (laws.spelled spelled.lines (one_unit u) s is spelled.spelled (ap program_of plain)) (ap program_of wide)
-
--- a program without units has no unit of any number
-no_such : {u : Unit} → None ≡ Some u → ⊥
-no_such e = absurd (false≢true (ap is_some e))
-
-pub empty_translation : TextLaws → (sources : List (List ℕ)) (file : File) → AreSpelled sources file → IsConnected file → file ≡ no_unit → Translation sources (layout_of no_unit)
-empty_translation laws sources file spelled connected is = record {
-  directed = no_unit;
-  written = no_unit;
-  wide = λ i x. false;
-  spelled = subst (AreSpelled sources) is spelled;
-  connected = subst IsConnected is connected;
-  layout = refl;
-  interface = record { modules = refl; order = refl; count = refl; varying = λ i u e h. absurd (no_such e); units = λ i u t e f. absurd (no_such e) };
-  erased = record { modules = refl; order = refl; units = λ i u t e f. absurd (no_such e); count = refl };
-  spread = record { columns = λ i u t e f h. absurd (no_such e); others = λ i u t e f h. absurd (no_such e); routines = λ i u t e f. absurd (no_such e) };
-  kept = λ plan. record { columns = λ i u t e f h. absurd (no_such e); others = λ i u t e f h. absurd (no_such e) };
-  read = λ number. laws.read number no_unit none_printable;
-  alone = λ number other h. laws.alone number no_unit other none_printable h;
-}
-
--- a relation of programs of one unit, from units to equal units
-carried : (P : Program → Program → Type 0) (u v w t : Unit) → u ≡ v → w ≡ t → P (program_of v) (program_of t) → P (program_of u) (program_of w)
-carried P u v w t e f h = subst (λ x. P (program_of x) (program_of w)) (sym e) (subst (λ x. P (program_of v) (program_of x)) (sym f) h)
-
-pub unit_translation : TextLaws → (sources : List (List ℕ)) (file : File) (u w : TreeUnit) → AreSpelled sources file → IsConnected file → file ≡ one_unit u → IsScalarsUnit u →
-    plain_unit w ≡ widened (plain_unit u) → Translation sources (layout_of (one_unit w))
-unit_translation laws sources file u w spelled connected is read made =
-    let s : Scalars = read.scalars in
-    let wide : plain_unit w ≡ wide_unit s = made ∙ (ap widened read.plain ∙ widened_is s) in
-    let names : ℕ → Text → Bool = λ i x. is_listed s.dummies x in
-    let printable = unit_printable laws sources u w s (subst (AreSpelled sources) is spelled) read.is read.plain wide in
-    record {
-      directed = one_unit u;
-      written = one_unit w;
-      wide = names;
-      spelled = subst (AreSpelled sources) is spelled;
-      connected = subst IsConnected is connected;
-      layout = refl;
-      interface = carried (λ p q. Interface p q names) (plain_unit u) (source_unit s) (plain_unit w) (wide_unit s) read.plain wide (interface_kept s read.is);
-      erased = carried (λ p q. Erased p q names) (plain_unit u) (source_unit s) (plain_unit w) (wide_unit s) read.plain wide (erased_to_source s read.is);
-      spread = carried (λ p q. Spread p q names (λ i x. false) Cpu Plain) (plain_unit u) (source_unit s) (plain_unit w) (wide_unit s) read.plain wide (statements_spread s read.is);
-      kept = λ plan. carried (λ p q. Kept p q plan) (plain_unit u) (source_unit s) (plain_unit w) (wide_unit s) read.plain wide (keeps_columns_from s read.is (source_does s read.is) (wide_does s read.is) (are_columnwise s read.is) plan);
-      read = λ number. laws.read number (one_unit w) printable;
-      alone = λ number other h. laws.alone number (one_unit w) other printable h;
-    }
-
--- ---- a program of which nothing is unbuilt
-
-abbrev head_or : TreeUnit → List TreeUnit → TreeUnit
-head_or v [] = v
-head_or v (u ∷ us) = u
-
--- the one unit
-record IsOne (file : File) (u : TreeUnit) : Type 0 where
-  alone : file.units ≡ u ∷ []
-  scalars : IsScalarsUnit u
-  dimension : HasDimension u
-
-one_of : (file : File) (u : TreeUnit) (others : List TreeUnit) → unbuilt file ≡ [] → file.units ≡ u ∷ others → IsOne file u
-one_of file u others built units = go (built_is file built).1
+no_such : {A B : Type 0} (a : A) → None ≡ Some a → B
+no_such a e = absurd (none_some a e)
   where
-    go : (file.units ≡ []) ⊎ ((v : TreeUnit) × OneUnit file v × IsScalarsUnit v × HasDimension v) → IsOne file u
-    go (inl none) = absurd (no_unit_there (sym units ∙ none))
-      where
-        no_unit_there : u ∷ others ≡ [] → ⊥
-        no_unit_there e = cc
-    go (inr (v, alone, scalars, dimension)) =
-        let same : v ≡ u = ap (head_or v) (sym alone ∙ units) in
-        record { alone = subst (λ x. file.units ≡ x ∷ []) same alone; scalars = subst IsScalarsUnit same scalars; dimension = subst HasDimension same dimension }
+    none_some : {A : Type 0} (a : A) → None ≡ Some a → ⊥
+    none_some a e = cc
 
-pub dimension_of : (file : File) (u : TreeUnit) (others : List TreeUnit) → unbuilt file ≡ [] → file.units ≡ u ∷ others → HasDimension u
-dimension_of file u others built units = (one_of file u others built units).dimension
+mapped_at : {A B : Type 0} (f : A → B) (xs : List A) (i : ℕ) (x : A) (y : B) → slice_get xs i ≡ Some x → slice_get (map f xs) i ≡ Some y → y ≡ f x
+mapped_at f [] i x y e h = no_such x e
+mapped_at f (z ∷ xs) zero x y e h = sym (some_is (f z) y h) ∙ ap f (some_is z x e)
+  where
+    some_is : {A : Type 0} (a b : A) → Some a ≡ Some b → a ≡ b
+    some_is a b e = cc
+mapped_at f (z ∷ xs) (suc i) x y e h = mapped_at f xs i x y e h
 
-pub made_of_none : TextLaws → (sources : List (List ℕ)) (lines : List Line) (file : File) → HaveLines sources lines → IsProgram lines file → IsConnected file → unbuilt file ≡ [] → file.units ≡ [] →
-    Translation sources (layout_of no_unit)
-made_of_none laws sources lines file are spelled connected built none =
-    empty_translation laws sources file (record { lines = lines; are = are; spelled = spelled }) connected (is_no_unit (mode_of lines) spelled.judged.forms file spelled.nests (built_is file built).0 none)
+written_as : (u t : Unit) → IsTranslatable u → t ≡ translated_unit u → IsWrittenAs u t
+written_as u t (as_it_is undirected made) e = subst (IsWrittenAs u) (sym (e ∙ made)) (writable.as_it_is undirected)
+written_as u t (for_all_columns s is source made) e = writable.for_all_columns s is source (e ∙ made)
 
-pub made_of_one : TextLaws → (sources : List (List ℕ)) (lines : List Line) (file : File) (u w : TreeUnit) (others : List TreeUnit) → HaveLines sources lines → IsProgram lines file → IsConnected file → unbuilt file ≡ [] →
-    file.units ≡ u ∷ others → plain_unit w ≡ widened (plain_unit u) → Translation sources (layout_of (one_unit w))
-made_of_one laws sources lines file u w others are spelled connected built units made =
-    let one = one_of file u others built units in
-    unit_translation laws sources file u w (record { lines = lines; are = are; spelled = spelled }) connected
-    (is_one_unit (mode_of lines) spelled.judged.forms file u spelled.nests (built_is file built).0 one.alone) one.scalars made
+unit_by_unit : Laws → (s t : Program) → AreTranslatable s → t ≡ translated s → UnitByUnit IsWrittenAs s t
+unit_by_unit laws s t units is = subst (UnitByUnit IsWrittenAs s) (sym is) (record {
+  modules = refl;
+  order = refl;
+  units = laws.by_number s.units (map translated_unit s.units) (length-map s.units translated_unit) (λ i u v at there. written_as u v (units i u at) (mapped_at translated_unit s.units i u v at there));
+})
 
-pub no_items : (us : List TreeUnit) → length us ≡ 0 → us ≡ []
-no_items [] e = refl
-no_items (u ∷ us) e = absurd (omega (arith, e))
+-- ---- the translation
+
+pub is_translation : Laws → (sources : List (List ℕ)) (lines : List Line) (file made : File) → HaveLines sources lines → IsProgram lines file → Sound Source file → unbuilt file ≡ [] →
+    plain_file made ≡ translated (plain_file file) → Translation sources (layout_of made)
+is_translation laws sources lines file made are spelled sound built is =
+    let printable = laws.printable lines file made spelled (unit_by_unit laws (plain_file file) (plain_file made) (laws.units file sound built) is) in
+    record {
+      directed = file;
+      written = made;
+      wide = wide_in (plain_file file);
+      spelled = record { lines = lines; are = are; spelled = spelled };
+      sound = sound;
+      layout = refl;
+      interface = laws.interface file (plain_file made) sound built is;
+      erased = laws.erased file (plain_file made) sound built is;
+      spread = laws.spread file (plain_file made) sound built is;
+      kept = laws.kept file (plain_file made) sound built is;
+      orderly = laws.orderly file (plain_file made) sound built is;
+      read = λ number. laws.read number made printable;
+      alone = λ number other h. laws.alone number made other printable h;
+    }

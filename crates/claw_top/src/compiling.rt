@@ -20,8 +20,10 @@ use fort_units::file;
 use layout_reading::{layouts_are_read, layouts_spell_one_file};
 use name_faults::names;
 use std::alloc::Global;
-use translated_programs::{first_unbuilt, sound_programs_translate, translated};
-use written_programs::translated_programs_can_be_written;
+use translated_programs::{
+    first_unbuilt, sound_programs_are_translated, translated, units_are_translated,
+};
+use written_programs::{programs_can_be_written, written_by_number};
 
 /// What is made of the sources.
 #[derive(Debug, Drop)]
@@ -142,8 +144,10 @@ fn translate(
         let begin = begins_at(place, lines.items());
         return Ok(Compiled::Fault(Fault::outside_profile(begin, 13)));
     }
-    sound_programs_translate();
-    translated_programs_can_be_written();
+    units_are_translated();
+    sound_programs_are_translated();
+    written_by_number();
+    programs_can_be_written();
     layouts_are_read();
     layouts_spell_one_file();
     Ok(Compiled::Program(translated(alloc, program)?))
