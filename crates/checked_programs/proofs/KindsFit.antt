@@ -1,8 +1,8 @@
 -- In a sound program each step has the kinds that it needs.
-use Rattle.std.proofs.Common.{◌≡◌, ℤ, List, [], ◌∷◌, ◌++◌, Bool, true, false, ◌&&◌, ◌||◌, not, cond, Option, None, Some, refl, sym, ap, subst, ◌∙◌}
+use Rattle.std.proofs.Common.{◌≡◌, ℤ, List, [], ◌∷◌, Bool, true, false, ◌&&◌, ◌||◌, not, cond, Option, None, Some, refl, sym, ap, subst, ◌∙◌}
 use Rattle.std.proofs.lemmas.Bool.{false≢true}
 use denote.Enum.Bare.{same_true}
-use Rattle.std.specs.Prelude.{flat_map, is_some, is_none, pos}
+use Rattle.std.specs.Prelude.{flat_map, is_some}
 use Rattle.fort_arith.specs.contracts.kind.Kind.{the_type as kind_type}
 use Rattle.fort_arith.specs.declared.kind.Kind.{Kind}
 use Rattle.fort_arith.specs.declared.kind.Kind.TheVariants.{I1, I2, I4, I8, Logical}
@@ -20,15 +20,14 @@ use Rattle.fort_tree.specs.declared.unit.File.{File}
 use Rattle.claw_meaning.specs.Syntax as plain
 use Rattle.claw_meaning.specs.Syntax.{Text}
 use Rattle.claw_meaning.specs.Scope.{Entity}
-use Rattle.claw_meaning.specs.Kinds.{or_default}
-use Rattle.sound_programs.specs.KindFaults.{needs_integer, needs_logical, needs_of_operator, needs_of_sign, second_of_int, first_of_other_kind, differing_kinds, kinds_differ_or_logical, first_argument, kind_faults_of_intrinsic, kind_faults_of_reference, kind_faults_of_part, actual_differs, kind_of_actual, kind_fault_of_actual, case_value, is_case_fault, case_fault, values_of, Numbers, numbers_in, overlap, overlaps, first_value, overlapping, needs_of_left, needs_of_step, kind_faults_in_step, kind_faults_in_scope, kind_faults, kind_faults_of_decls, literals_in, defined_bounds}
-use Rattle.sound_programs.specs.Kinding.{kind, is_integer, is_logical, kind_named_by}
+use Rattle.sound_programs.specs.KindFaults.{needs_integer, needs_logical, needs_of_operator, needs_of_sign, second_of_int, first_of_other_kind, differing_kinds, kinds_differ_or_logical, kind_faults_of_intrinsic, kind_faults_of_reference, kind_faults_of_part, actual_differs, kind_of_actual, kind_fault_of_actual, is_case_fault, case_fault, values_of, Numbers, numbers_in, overlap, overlaps, first_value, overlapping, needs_of_left, needs_of_step, kind_faults_in_step, kind_faults_in_scope, kind_faults}
+use Rattle.sound_programs.specs.Kinding.{kind, is_integer, is_logical}
 use Rattle.sound_programs.specs.Laws.{Each, entity_of}
-use Rattle.sound_programs.specs.Placed.{Expr, Numeral, Boolean, Name, Reference, Signed, Binary, Paren, Subscripts, No_more, One, Section, Range, Single, Span, after_first, bare_program, first}
+use Rattle.sound_programs.specs.Placed.{Expr, Numeral, Boolean, Name, Reference, Signed, Binary, Paren, Subscripts, No_more, One, Section, Range, Single, Span, bare_program, first}
 use Rattle.sound_programs.specs.Placing.{placed}
 use Rattle.sound_programs.specs.Scopes.{Of_unit, scopes, is_array}
 use Rattle.sound_programs.specs.Sound.{Sound}
-use Rattle.sound_programs.specs.Walks.{Stands, Step, Assigns, Calls, Tests, Chooses, Repeats, Actual, actuals, sites, steps_of, parts_of, single_subscripts, section_bounds, in_head}
+use Rattle.sound_programs.specs.Walks.{Stands, Step, Assigns, Calls, Tests, Chooses, Repeats, Actual, actuals, sites, steps_of, parts_of, single_subscripts, in_head}
 use Rattle.sound_programs.proofs.SoundLaws.{empty_if_nowhere, left_empty, right_empty}
 use Rattle.checked_programs.specs.Fitting.{EachTwo, IsIntegerIfKnown, IsLogicalIfKnown, IsOneIfKnown, CaseFits, HasValue, ShareNoNumber, NamesKind, IsInteger, IsLogical, FitsOperator, FitsSign, AreOfOneKind, ArgumentsFit, SubscriptsFit, PartFits, WholesFit, ActualFits, HasFittingKinds, KindsFit}
 use Rattle.checked_programs.proofs.Empties.{no_head, each_by, each_from, each_empty, not_placed, not_false, then_true, not_none, each_in_append, each_before_map}
@@ -62,10 +61,6 @@ logical_if_known (Some I4) h k e = absurd (false≢true (sym h))
 logical_if_known (Some I8) h k e = absurd (false≢true (sym h))
 logical_if_known (Some Logical) h k e = sym (same_known Logical k e)
 
--- a kind that is known
-known : Option Kind → Type 0
-known o = (k : Kind) × (o ≡ Some k)
-
 -- ---- One kind
 
 -- each of the one kind, where its kind is known
@@ -79,8 +74,7 @@ module _ (entity : Text → Entity) where
 
   of_this : (k : Kind) (o : Option Kind) → is_integer o && not (same_kind (Some k) o) ≡ false → IsIntegerIfKnown o → (j : Kind) → o ≡ Some j → k ≡ j
   of_this k None none whole j e = not_known j e
-  of_this k (Some i) none whole j e =
-      same_true kind_type tt k i (then_true (is_whole i) (same_kind (Some k) (Some i)) none (whole i refl)) ∙ same_known i j e
+  of_this k (Some i) none whole j e = same_true kind_type tt k i (then_true _ _ none (whole i refl)) ∙ same_known i j e
 
   all_of_this : (k : Kind) (es : List Expr) → first_of_other_kind entity (Some k) es ≡ [] → Each es (IsInteger entity) → AllOf entity k es
   all_of_this k [] none all = tt
@@ -112,10 +106,10 @@ module _ (entity : Text → Entity) where
   -- ---- Parts
 
   is_whole_part : (e : Expr) → needs_integer entity e ≡ [] → IsInteger entity e
-  is_whole_part e none = integer_if_known (kind entity e) (not_placed (is_logical (kind entity e)) (first e) none)
+  is_whole_part e none = integer_if_known _ (not_placed _ _ none)
 
   is_logical_part : (e : Expr) → needs_logical entity e ≡ [] → IsLogical entity e
-  is_logical_part e none = logical_if_known (kind entity e) (not_placed (is_integer (kind entity e)) (first e) none)
+  is_logical_part e none = logical_if_known _ (not_placed _ _ none)
 
   all_whole : (es : List Expr) → flat_map (needs_integer entity) es ≡ [] → Each es (IsInteger entity)
   all_whole es none = each_from (needs_integer entity) es is_whole_part none
@@ -134,19 +128,19 @@ module _ (entity : Text → Entity) where
 
   are_of_one_kind : (args : Subscripts) → kinds_differ_or_logical entity args ≡ [] → AreOfOneKind entity (single_subscripts args)
   are_of_one_kind args none =
-      let whole : Each (single_subscripts args) (IsInteger entity) = all_whole (single_subscripts args) (left_empty (flat_map (needs_integer entity) (single_subscripts args)) (differing_kinds entity (single_subscripts args)) none) in
-      (whole, of_one_kind (single_subscripts args) (right_empty (flat_map (needs_integer entity) (single_subscripts args)) (differing_kinds entity (single_subscripts args)) none) whole)
+      let whole : Each (single_subscripts args) (IsInteger entity) = all_whole _ (left_empty _ _ none) in
+      (whole, of_one_kind (single_subscripts args) (right_empty _ _ none) whole)
 
   names_kind : (args : Subscripts) → second_of_int entity args ≡ [] → NamesKind args
   names_kind No_more none = tt
-  names_kind (One e rest) none = not_none (kind_named_by e) (not_placed (is_none (kind_named_by e)) (first e) none)
+  names_kind (One e rest) none = not_none _ (not_placed _ _ none)
   names_kind (Section lower upper at rest) none = tt
 
   arguments_fit : (which : Intrinsic) (args : Subscripts) → kind_faults_of_intrinsic entity which args ≡ [] → ArgumentsFit entity which args
   arguments_fit Size args none = tt
   arguments_fit Int args none = (
-    all_whole (first_argument entity args) (left_empty (flat_map (needs_integer entity) (first_argument entity args)) (second_of_int entity (after_first args)) none),
-    names_kind (after_first args) (right_empty (flat_map (needs_integer entity) (first_argument entity args)) (second_of_int entity (after_first args)) none),
+    all_whole _ (left_empty _ _ none),
+    names_kind _ (right_empty _ _ none),
   )
   arguments_fit Sum args none = are_of_one_kind args none
   arguments_fit Abs args none = are_of_one_kind args none
@@ -158,21 +152,21 @@ module _ (entity : Text → Entity) where
 
   subscripts_fit : (which : Option Intrinsic) (array : Bool) (subs : Subscripts) → kind_faults_of_reference entity which array subs ≡ [] → SubscriptsFit entity which array subs
   subscripts_fit (Some which) array subs none = arguments_fit which subs none
-  subscripts_fit None true subs none = all_whole (single_subscripts subs) none
+  subscripts_fit None true subs none = all_whole _ none
   subscripts_fit None false subs none = tt
 
   part_fits : (e : Expr) → kind_faults_of_part entity e ≡ [] → PartFits entity e
-  part_fits (Numeral n suffix at) none = not_false (in_kind (or_default suffix) (pos n)) (not_placed (not (in_kind (or_default suffix) (pos n))) at none)
+  part_fits (Numeral n suffix at) none = not_false _ (not_placed _ _ none)
   part_fits (Boolean b at) none = tt
   part_fits (Name x at) none = tt
   part_fits (Reference x subs at) none = (
-    subscripts_fit (intrinsic_named x) (is_array (entity x)) subs (left_empty (kind_faults_of_reference entity (intrinsic_named x) (is_array (entity x)) subs) (flat_map (needs_integer entity) (section_bounds subs)) none),
-    all_whole (section_bounds subs) (right_empty (kind_faults_of_reference entity (intrinsic_named x) (is_array (entity x)) subs) (flat_map (needs_integer entity) (section_bounds subs)) none),
+    subscripts_fit (intrinsic_named x) (is_array (entity x)) subs (left_empty _ _ none),
+    all_whole _ (right_empty _ _ none),
   )
   part_fits (Signed sign e at) none = fits_sign sign e none
   part_fits (Binary op a b) none = (
-    fits_operator op a (left_empty (needs_of_operator entity op a) (needs_of_operator entity op b) none),
-    fits_operator op b (right_empty (needs_of_operator entity op a) (needs_of_operator entity op b) none),
+    fits_operator op a (left_empty _ _ none),
+    fits_operator op b (right_empty _ _ none),
   )
   part_fits (Paren e at) none = tt
 
@@ -181,11 +175,11 @@ module _ (entity : Text → Entity) where
   agrees : (o : Option Expr) (p : Option plain.Decl) → actual_differs entity (kind_of_actual entity o) p ≡ false
       → (e : Expr) (d : plain.Decl) (k : Kind) → o ≡ Some e → p ≡ Some d → kind entity e ≡ Some k → k ≡ d.kind
   agrees o p h e d k a b c =
-      same_true kind_type tt k d.kind (not_false (same_kind (Some k) (Some d.kind))
+      same_true kind_type tt k d.kind (not_false _
       (subst (λ q. actual_differs entity q (Some d) ≡ false) c (subst (λ q. actual_differs entity (kind_of_actual entity (Some e)) q ≡ false) b (subst (λ q. actual_differs entity (kind_of_actual entity q) p ≡ false) a h))))
 
   actual_fits : (a : Actual) → kind_fault_of_actual entity a ≡ [] → ActualFits entity a
-  actual_fits a none = agrees a.expr a.dummy (not_placed (actual_differs entity (kind_of_actual entity a.expr) a.dummy) a.at none)
+  actual_fits a none = agrees a.expr a.dummy (not_placed _ _ none)
 
   -- ---- Steps
 
@@ -193,10 +187,10 @@ module _ (entity : Text → Entity) where
   case_fits o None h = absurd (false≢true (sym h))
   case_fits None (Some n) h = (n, refl, λ k e w. not_known k e)
   case_fits (Some j) (Some n) h =
-      (n, refl, λ k e w. subst (λ i. in_kind i n ≡ true) (same_known j k e) (then_true (is_whole j) (in_kind j n) h (subst (λ i. is_whole i ≡ true) (sym (same_known j k e)) w)))
+      (n, refl, λ k e w. subst (λ i. in_kind i n ≡ true) (same_known j k e) (then_true _ _ h (subst (λ i. is_whole i ≡ true) (sym (same_known j k e)) w)))
 
-  kept_apart : (a : Range) (x y : Numbers entity) (b : Range) → cond (overlap entity x y) (first_value entity b) [] ≡ [] → HasValue b → overlap entity x y ≡ false
-  kept_apart a x y b none has = go (overlap entity x y) none
+  kept_apart : (x y : Numbers entity) (b : Range) → cond (overlap entity x y) (first_value entity b) [] ≡ [] → HasValue b → overlap entity x y ≡ false
+  kept_apart x y b none has = go (overlap entity x y) none
     where
       some_value : (b : Range) → HasValue b → first_value entity b ≡ [] → ⊥
       some_value (Single e) has none = no_head (first e) [] none
@@ -210,13 +204,13 @@ module _ (entity : Text → Entity) where
 
   share_no_number : (a b : Range) → overlaps entity a b ≡ [] → ShareNoNumber entity a b
   share_no_number a b none has =
-      each_from _ (numbers_in entity a) (λ x e. each_from _ (numbers_in entity b) (λ y h. kept_apart a x y b h has) e) none
+      each_from _ (numbers_in entity a) (λ x e. each_from _ (numbers_in entity b) (λ y h. kept_apart x y b h has) e) none
 
   none_share : (ranges : List Range) → overlapping entity ranges ≡ [] → EachTwo (ShareNoNumber entity) ranges
   none_share [] none = tt
   none_share (a ∷ rest) none = (
-    each_from (overlaps entity a) rest (λ b h. share_no_number a b h) (left_empty (flat_map (overlaps entity a) rest) (overlapping entity rest) none),
-    none_share rest (right_empty (flat_map (overlaps entity a) rest) (overlapping entity rest) none),
+    each_from (overlaps entity a) rest (λ b h. share_no_number a b h) (left_empty _ _ none),
+    none_share rest (right_empty _ _ none),
   )
 
   sorts_agree : (left right : Expr) → needs_of_left entity (kind entity left) right ≡ [] → (j k : Kind) → kind entity left ≡ Some j → kind entity right ≡ Some k → is_whole j ≡ is_whole k
@@ -226,34 +220,31 @@ module _ (entity : Text → Entity) where
       whole_then j h none = h ∙ sym (is_whole_part right none k b)
 
       go : (j : Kind) → needs_of_left entity (Some j) right ≡ [] → is_whole j ≡ is_whole k
-      go I1 none = whole_then I1 refl (left_empty (needs_integer entity right) [] none)
-      go I2 none = whole_then I2 refl (left_empty (needs_integer entity right) [] none)
-      go I4 none = whole_then I4 refl (left_empty (needs_integer entity right) [] none)
-      go I8 none = whole_then I8 refl (left_empty (needs_integer entity right) [] none)
+      go I1 none = whole_then I1 refl (left_empty _ _ none)
+      go I2 none = whole_then I2 refl (left_empty _ _ none)
+      go I4 none = whole_then I4 refl (left_empty _ _ none)
+      go I8 none = whole_then I8 refl (left_empty _ _ none)
       go Logical none = sym (ap is_whole (is_logical_part right none k b))
 
   wholes_fit : (step : Step) → needs_of_step entity step ≡ [] → WholesFit entity step
   wholes_fit (Assigns left right) none = sorts_agree left right none
-  wholes_fit (Calls name args) none = all_whole (section_bounds args) none
+  wholes_fit (Calls name args) none = all_whole _ none
   wholes_fit (Tests e) none = is_logical_part e none
   wholes_fit (Chooses e ranges) none =
-      let rest : flat_map (case_fault entity (kind entity e)) (flat_map (values_of entity) ranges) ++ overlapping entity ranges ≡ [] =
-      right_empty (needs_integer entity e) (flat_map (case_fault entity (kind entity e)) (flat_map (values_of entity) ranges) ++ overlapping entity ranges) none in (
-        is_whole_part e (left_empty (needs_integer entity e) (flat_map (case_fault entity (kind entity e)) (flat_map (values_of entity) ranges) ++ overlapping entity ranges) none),
-        each_from (case_fault entity (kind entity e)) (flat_map (values_of entity) ranges) (λ v h. case_fits (kind entity e) (case_value entity v) (not_placed (is_case_fault entity (kind entity e) (case_value entity v)) (first v) h))
-            (left_empty (flat_map (case_fault entity (kind entity e)) (flat_map (values_of entity) ranges)) (overlapping entity ranges) rest),
-        none_share ranges (right_empty (flat_map (case_fault entity (kind entity e)) (flat_map (values_of entity) ranges)) (overlapping entity ranges) rest),
+      let rest = right_empty _ _ none in (
+        is_whole_part e (left_empty _ _ none),
+        each_from (case_fault entity (kind entity e)) (flat_map (values_of entity) ranges) (λ v h. case_fits _ _ (not_placed _ _ h)) (left_empty _ _ rest),
+        none_share ranges (right_empty _ _ rest),
       )
   wholes_fit (Repeats head mark) none = all_whole (in_head head) none
 
   kinds_of_step : (step : Step) → kind_faults_in_step entity step ≡ [] → HasFittingKinds entity step
   kinds_of_step step none =
-      let rest : flat_map (kind_faults_of_part entity) (parts_of step) ++ flat_map (kind_fault_of_actual entity) (flat_map (actuals entity) (sites entity step)) ≡ [] =
-      right_empty (needs_of_step entity step) (flat_map (kind_faults_of_part entity) (parts_of step) ++ flat_map (kind_fault_of_actual entity) (flat_map (actuals entity) (sites entity step))) none in
+      let rest = right_empty _ _ none in
       record {
-        wholes = wholes_fit step (left_empty (needs_of_step entity step) (flat_map (kind_faults_of_part entity) (parts_of step) ++ flat_map (kind_fault_of_actual entity) (flat_map (actuals entity) (sites entity step))) none);
-        parts = each_from (kind_faults_of_part entity) (parts_of step) part_fits (left_empty (flat_map (kind_faults_of_part entity) (parts_of step)) (flat_map (kind_fault_of_actual entity) (flat_map (actuals entity) (sites entity step))) rest);
-        actuals = each_from (kind_fault_of_actual entity) (flat_map (actuals entity) (sites entity step)) actual_fits (right_empty (flat_map (kind_faults_of_part entity) (parts_of step)) (flat_map (kind_fault_of_actual entity) (flat_map (actuals entity) (sites entity step))) rest);
+        wholes = wholes_fit step (left_empty _ _ none);
+        parts = each_from (kind_faults_of_part entity) (parts_of step) part_fits (left_empty _ _ rest);
+        actuals = each_from (kind_fault_of_actual entity) (flat_map (actuals entity) (sites entity step)) actual_fits (right_empty _ _ rest);
       }
 
 pub kinds_fit : (mode : Mode) (file : File) → Sound mode file → KindsFit file
@@ -266,5 +257,4 @@ kinds_fit mode file sound =
     each_before_map Of_unit (λ s. kind_faults_in_scope q s ≡ []) p.units (each_in_append (λ s. kind_faults_in_scope q s ≡ []) _ _ in_scopes) in
     each_by p.units (λ u e.
     each_from (λ (s : Stands). kind_faults_in_step (entity_of file u) s.step) (steps_of u) (λ s h. kinds_of_step (entity_of file u) s.step h)
-    (right_empty (literals_in (defined_bounds u.marks)) (flat_map (λ (s : Stands). kind_faults_in_step (entity_of file u) s.step) (steps_of u))
-    (right_empty (kind_faults_of_decls (Of_unit u) (entity_of file u) u.decls) (literals_in (defined_bounds u.marks) ++ flat_map (λ (s : Stands). kind_faults_in_step (entity_of file u) s.step) (steps_of u)) e))) in_units
+    (right_empty _ _ (right_empty _ _ e))) in_units

@@ -14,11 +14,11 @@ use Rattle.sound_programs.specs.Laws.{Each, entity_of}
 use Rattle.sound_programs.specs.Placed.{Expr, Numeral, Boolean, Name, Reference, Signed, Binary, Paren, bare_program, first}
 use Rattle.sound_programs.specs.Placing.{placed}
 use Rattle.sound_programs.specs.Places.{where_place}
-use Rattle.sound_programs.specs.RankFaults.{needs_scalar, wrong_subscripts, is_used_well, intrinsic_misused, takes_sections, range_as_argument, array_as_subscript, differing_in_each, own_lists, ranks_differ_inside, rank_faults_of_part, is_array_reference, is_rank_fault, rank_fault_of_actual, needs_of_left, ranks_of_step, rank_faults_in_step, rank_faults_in_scope, rank_faults, rank_faults_of_decls, result_not_scalar}
-use Rattle.sound_programs.specs.Ranking.{Operand, operands, rank, rank_of_entity, first_other, differing}
+use Rattle.sound_programs.specs.RankFaults.{needs_scalar, differing_in_each, rank_faults_of_part, is_array_reference, is_rank_fault, rank_fault_of_actual, ranks_of_step, rank_faults_in_step, rank_faults_in_scope, rank_faults}
+use Rattle.sound_programs.specs.Ranking.{Operand, operands, rank, first_other, differing}
 use Rattle.sound_programs.specs.Scopes.{Of_unit, scopes, is_array}
 use Rattle.sound_programs.specs.Sound.{Sound}
-use Rattle.sound_programs.specs.Walks.{Stands, Step, Assigns, Calls, Tests, Chooses, Repeats, Actual, actuals, sites, steps_of, parts_of, single_subscripts, section_bounds, section_places, count_of, in_head}
+use Rattle.sound_programs.specs.Walks.{Stands, Step, Assigns, Calls, Tests, Chooses, Repeats, Actual, actuals, sites, steps_of, parts_of, in_head}
 use Rattle.sound_programs.proofs.SoundLaws.{empty_if_nowhere, left_empty, right_empty}
 use Rattle.checked_programs.specs.Fitting.{AreOfOneRank, IsScalar, IsOfOneRank, PartIsRanked, WholesAreRanked, ActualIsRanked, HasFittingRanks, RanksFit}
 use Rattle.checked_programs.proofs.Empties.{no_head, each_by, each_from, each_empty, not_placed, not_false, then_true, chosen_empty, other_empty, each_in_append, each_before_map}
@@ -34,11 +34,11 @@ of_this_rank n [] none = tt
 of_this_rank n (o ∷ os) none = go (of_this_rank n os) (nat_eq o.rank n) refl
   where
     go : (first_other n os ≡ [] → Each os (λ o. o.rank ≡ n)) → (b : Bool) → nat_eq o.rank n ≡ b → Each (o ∷ os) (λ o. o.rank ≡ n)
-    go rest true h = (eqb-true o.rank n h, rest (subst (λ b. cond b (first_other n os) (o.at ∷ []) ≡ []) h none))
+    go rest true h = (eqb-true _ _ h, rest (subst (λ b. cond b (first_other n os) (o.at ∷ []) ≡ []) h none))
     go rest false h = absurd (no_head o.at [] (subst (λ b. cond b (first_other n os) (o.at ∷ []) ≡ []) h none))
 
 as_many : (a b c : Bool) → a && (b && not c) ≡ false → a && b ≡ true → c ≡ true
-as_many true b c none h = then_true b c none h
+as_many true b c none h = then_true _ _ none h
 as_many false b c none h = absurd (false≢true h)
 
 module _ (entity : Text → Entity) where
@@ -47,7 +47,7 @@ module _ (entity : Text → Entity) where
   of_one_rank (o ∷ os) none = (refl, of_this_rank o.rank os none)
 
   is_scalar : (e : Expr) → needs_scalar entity e ≡ [] → IsScalar entity e
-  is_scalar e none = none_above (rank entity e) (not_placed (nat_lt 0 (rank entity e)) (first e) none)
+  is_scalar e none = none_above (rank entity e) (not_placed _ _ none)
 
   all_scalar : (es : List Expr) → flat_map (needs_scalar entity) es ≡ [] → Each es (IsScalar entity)
   all_scalar es none = each_from (needs_scalar entity) es is_scalar none
@@ -62,29 +62,17 @@ module _ (entity : Text → Entity) where
   part_is_ranked (Boolean b at) none = tt
   part_is_ranked (Name x at) none = tt
   part_is_ranked (Reference x subs at) none =
-      let e : Expr = Reference x subs at in
-      let rest : intrinsic_misused entity e ++ (range_as_argument entity e ++ (array_as_subscript entity e ++ ranks_differ_inside entity e)) ≡ [] =
-      right_empty (wrong_subscripts entity e) (intrinsic_misused entity e ++ (range_as_argument entity e ++ (array_as_subscript entity e ++ ranks_differ_inside entity e))) none in
-      let later : range_as_argument entity e ++ (array_as_subscript entity e ++ ranks_differ_inside entity e) ≡ [] =
-      right_empty (intrinsic_misused entity e) (range_as_argument entity e ++ (array_as_subscript entity e ++ ranks_differ_inside entity e)) rest in
-      let last : array_as_subscript entity e ++ ranks_differ_inside entity e ≡ [] =
-      right_empty (range_as_argument entity e) (array_as_subscript entity e ++ ranks_differ_inside entity e) later in
-      let arrays : array_as_subscript entity e ≡ [] = left_empty (array_as_subscript entity e) (ranks_differ_inside entity e) last in
+      let rest = right_empty _ _ none in
+      let later = right_empty _ _ rest in
+      let last = right_empty _ _ later in
+      let arrays = left_empty _ _ last in
       record {
-        counted = λ takes. eqb-true (count_of subs) (rank_of_entity (entity x))
-            (as_many (is_none (intrinsic_named x)) (is_array (entity x)) (nat_eq (count_of subs) (rank_of_entity (entity x)))
-            (not_placed (is_none (intrinsic_named x) && (is_array (entity x) && not (nat_eq (count_of subs) (rank_of_entity (entity x))))) at (left_empty (wrong_subscripts entity e) (intrinsic_misused entity e ++ (range_as_argument entity e ++ (array_as_subscript entity e ++ ranks_differ_inside entity e))) none))
-            takes);
-        intrinsic = not_false (is_used_well entity (intrinsic_named x) subs)
-            (not_placed (not (is_used_well entity (intrinsic_named x) subs)) at (left_empty (intrinsic_misused entity e) (range_as_argument entity e ++ (array_as_subscript entity e ++ ranks_differ_inside entity e)) rest));
-        sections = other_empty (takes_sections entity x) (section_places subs) (left_empty (range_as_argument entity e) (array_as_subscript entity e ++ ranks_differ_inside entity e) later);
-        subscripts = λ takes. all_scalar (single_subscripts subs)
-            (chosen_empty (takes_sections entity x) (flat_map (needs_scalar entity) (single_subscripts subs))
-            (left_empty (cond (takes_sections entity x) (flat_map (needs_scalar entity) (single_subscripts subs)) []) (flat_map (needs_scalar entity) (section_bounds subs)) arrays) takes);
-        bounds = all_scalar (section_bounds subs)
-            (right_empty (cond (takes_sections entity x) (flat_map (needs_scalar entity) (single_subscripts subs)) []) (flat_map (needs_scalar entity) (section_bounds subs)) arrays);
-        operands = all_of_one_rank (own_lists entity (intrinsic_named x) (single_subscripts subs) ++ section_bounds subs)
-            (right_empty (array_as_subscript entity e) (ranks_differ_inside entity e) last);
+        counted = λ takes. eqb-true _ _ (as_many (is_none (intrinsic_named x)) (is_array (entity x)) _ (not_placed _ _ (left_empty _ _ none)) takes);
+        intrinsic = not_false _ (not_placed _ _ (left_empty _ _ rest));
+        sections = other_empty _ _ (left_empty _ _ later);
+        subscripts = λ takes. all_scalar _ (chosen_empty _ _ (left_empty _ _ arrays) takes);
+        bounds = all_scalar _ (right_empty _ _ arrays);
+        operands = all_of_one_rank _ (right_empty _ _ last);
       }
   part_is_ranked (Signed sign e at) none = tt
   part_is_ranked (Binary op a b) none = tt
@@ -95,9 +83,9 @@ module _ (entity : Text → Entity) where
   one_actual : (e : Expr) (d : plain.Decl) → is_rank_fault entity e (Some d) ≡ false → (rank entity e ≡ length d.shape) × (nat_lt 0 (rank entity e) ≡ true → is_array_reference entity e ≡ true)
   one_actual e d h =
       let both : (not (nat_eq (rank entity e) (length d.shape)) ≡ false) × (nat_lt 0 (rank entity e) && not (is_array_reference entity e) ≡ false) =
-      or_parts (not (nat_eq (rank entity e) (length d.shape))) (nat_lt 0 (rank entity e) && not (is_array_reference entity e)) h in (
-        eqb-true (rank entity e) (length d.shape) (not_false (nat_eq (rank entity e) (length d.shape)) both.0),
-        then_true (nat_lt 0 (rank entity e)) (is_array_reference entity e) both.1,
+      or_parts _ _ h in (
+        eqb-true _ _ (not_false _ both.0),
+        then_true _ _ both.1,
       )
 
   any_actual : (o : Option Expr) (p : Option plain.Decl) → flat_map (λ e. where_place (is_rank_fault entity e p) (first e)) (option_to_list o) ≡ []
@@ -106,7 +94,7 @@ module _ (entity : Text → Entity) where
       let of_this : flat_map (λ e. where_place (is_rank_fault entity e (Some d)) (first e)) (option_to_list (Some e)) ≡ [] =
       subst (λ q. flat_map (λ e. where_place (is_rank_fault entity e q) (first e)) (option_to_list (Some e)) ≡ []) b
       (subst (λ r. flat_map (λ e. where_place (is_rank_fault entity e p) (first e)) (option_to_list r) ≡ []) a none) in
-      one_actual e d (not_placed (is_rank_fault entity e (Some d)) (first e) (left_empty (where_place (is_rank_fault entity e (Some d)) (first e)) [] of_this))
+      one_actual e d (not_placed _ _ (left_empty _ _ of_this))
 
   actual_is_ranked : (a : Actual) → rank_fault_of_actual entity a ≡ [] → ActualIsRanked entity a
   actual_is_ranked a none = any_actual a.expr a.dummy none
@@ -115,28 +103,26 @@ module _ (entity : Text → Entity) where
 
   wholes_are_ranked : (step : Step) → ranks_of_step entity step ≡ [] → WholesAreRanked entity step
   wholes_are_ranked (Assigns left right) none = (
-    of_one_rank (operands entity left ++ operands entity right) (left_empty (differing (operands entity left ++ operands entity right)) (needs_of_left entity left right) none),
-    λ scalar. is_scalar right (chosen_empty (nat_eq (rank entity left) 0) (needs_scalar entity right) (right_empty (differing (operands entity left ++ operands entity right)) (needs_of_left entity left right) none) (eq-eqb (rank entity left) 0 scalar)),
+    of_one_rank (operands entity left ++ operands entity right) (left_empty _ _ none),
+    λ scalar. is_scalar right (chosen_empty _ _ (right_empty _ _ none) (eq-eqb (rank entity left) 0 scalar)),
   )
   wholes_are_ranked (Calls name args) none =
-      let rest : section_places args ++ flat_map (needs_scalar entity) (section_bounds args) ≡ [] =
-      right_empty (differing_in_each entity (single_subscripts args ++ section_bounds args)) (section_places args ++ flat_map (needs_scalar entity) (section_bounds args)) none in (
-        all_of_one_rank (single_subscripts args ++ section_bounds args) (left_empty (differing_in_each entity (single_subscripts args ++ section_bounds args)) (section_places args ++ flat_map (needs_scalar entity) (section_bounds args)) none),
-        left_empty (section_places args) (flat_map (needs_scalar entity) (section_bounds args)) rest,
-        all_scalar (section_bounds args) (right_empty (section_places args) (flat_map (needs_scalar entity) (section_bounds args)) rest),
+      let rest = right_empty _ _ none in (
+        all_of_one_rank _ (left_empty _ _ none),
+        left_empty _ _ rest,
+        all_scalar _ (right_empty _ _ rest),
       )
-  wholes_are_ranked (Tests e) none = is_scalar e (right_empty (differing_in_each entity (e ∷ [])) (needs_scalar entity e) none)
-  wholes_are_ranked (Chooses e ranges) none = is_scalar e (right_empty (differing_in_each entity (e ∷ [])) (needs_scalar entity e) none)
-  wholes_are_ranked (Repeats head mark) none = all_scalar (in_head head) (right_empty (differing_in_each entity (in_head head)) (flat_map (needs_scalar entity) (in_head head)) none)
+  wholes_are_ranked (Tests e) none = is_scalar e (right_empty _ _ none)
+  wholes_are_ranked (Chooses e ranges) none = is_scalar e (right_empty _ _ none)
+  wholes_are_ranked (Repeats head mark) none = all_scalar (in_head head) (right_empty _ _ none)
 
   ranks_of_one_step : (step : Step) → rank_faults_in_step entity step ≡ [] → HasFittingRanks entity step
   ranks_of_one_step step none =
-      let rest : flat_map (rank_faults_of_part entity) (parts_of step) ++ flat_map (rank_fault_of_actual entity) (flat_map (actuals entity) (sites entity step)) ≡ [] =
-      right_empty (ranks_of_step entity step) (flat_map (rank_faults_of_part entity) (parts_of step) ++ flat_map (rank_fault_of_actual entity) (flat_map (actuals entity) (sites entity step))) none in
+      let rest = right_empty _ _ none in
       record {
-        wholes = wholes_are_ranked step (left_empty (ranks_of_step entity step) (flat_map (rank_faults_of_part entity) (parts_of step) ++ flat_map (rank_fault_of_actual entity) (flat_map (actuals entity) (sites entity step))) none);
-        parts = each_from (rank_faults_of_part entity) (parts_of step) part_is_ranked (left_empty (flat_map (rank_faults_of_part entity) (parts_of step)) (flat_map (rank_fault_of_actual entity) (flat_map (actuals entity) (sites entity step))) rest);
-        actuals = each_from (rank_fault_of_actual entity) (flat_map (actuals entity) (sites entity step)) actual_is_ranked (right_empty (flat_map (rank_faults_of_part entity) (parts_of step)) (flat_map (rank_fault_of_actual entity) (flat_map (actuals entity) (sites entity step))) rest);
+        wholes = wholes_are_ranked step (left_empty _ _ none);
+        parts = each_from (rank_faults_of_part entity) (parts_of step) part_is_ranked (left_empty _ _ rest);
+        actuals = each_from (rank_fault_of_actual entity) (flat_map (actuals entity) (sites entity step)) actual_is_ranked (right_empty _ _ rest);
       }
 
 pub ranks_fit : (mode : Mode) (file : File) → Sound mode file → RanksFit file
@@ -149,5 +135,4 @@ ranks_fit mode file sound =
     each_before_map Of_unit (λ s. rank_faults_in_scope mode q s ≡ []) p.units (each_in_append (λ s. rank_faults_in_scope mode q s ≡ []) _ _ in_scopes) in
     each_by p.units (λ u e.
     each_from (λ (s : Stands). rank_faults_in_step (entity_of file u) s.step) (steps_of u) (λ s h. ranks_of_one_step (entity_of file u) s.step h)
-    (right_empty (result_not_scalar u) (flat_map (λ (s : Stands). rank_faults_in_step (entity_of file u) s.step) (steps_of u))
-    (right_empty (rank_faults_of_decls mode (Of_unit u)) (result_not_scalar u ++ flat_map (λ (s : Stands). rank_faults_in_step (entity_of file u) s.step) (steps_of u)) e))) in_units
+    (right_empty _ _ (right_empty _ _ e))) in_units

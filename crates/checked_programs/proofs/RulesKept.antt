@@ -1,11 +1,10 @@
 -- A sound program keeps the rules on arguments, writes and loop variables.
 use Rattle.std.proofs.Common.{◌≡◌, ℕ, List, [], ◌∷◌, ◌++◌, length, Bool, true, false, ◌&&◌, ◌||◌, not, Option, None, Some, refl, sym, subst}
 use Rattle.std.proofs.lemmas.Bool.{false≢true, or_parts, eqb-true}
-use Rattle.std.specs.Prelude.{flat_map, map, is_some, is_none, IsTrue}
+use Rattle.std.specs.Prelude.{flat_map, is_some, is_none, IsTrue}
 use Rattle.std.specs.List.{filter, list_any}
 use Rattle.std.specs.Option.{option_to_list}
 use Rattle.fort_arith.specs.declared.op.Intrinsic.{Intrinsic}
-use Rattle.fort_tree.specs.Intrinsic.{intrinsic_named}
 use Rattle.fort_tree.specs.declared.choice.Mode.{Mode}
 use Rattle.fort_tree.specs.declared.unit.File.{File}
 use Rattle.fort_tree.specs.declared.unit.Intent.{Intent}
@@ -14,18 +13,18 @@ use Rattle.claw_meaning.specs.Syntax as plain
 use Rattle.claw_meaning.specs.Syntax.{Text}
 use Rattle.claw_meaning.specs.Scope.{Entity}
 use Rattle.claw_meaning.specs.Units.{is_intent_in, is_listed}
-use Rattle.sound_programs.specs.ArgumentFaults.{takes, unit_takes, intrinsic_takes, unit_count_differs, intrinsic_count_differs, counts_differ, count_faults, same_variable, share, shared_actuals, same_pair, module_variables, module_variables_of, reached_from, is_named_by, named_behind, behind_site, alias_at_site, alias_faults, is_fixed, is_writable, assigns_fixed, passes_fixed, writes_fixed, function_dummies, names_written, module_writes, function_writes, write_faults_in_unit, write_faults}
+use Rattle.sound_programs.specs.ArgumentFaults.{takes, unit_takes, intrinsic_takes, counts_differ, count_faults, share, shared_actuals, same_pair, module_variables, module_variables_of, reached_from, is_named_by, named_behind, behind_site, alias_at_site, alias_faults, is_fixed, is_writable, writes_fixed, function_dummies, names_written, module_writes, function_writes, write_faults_in_unit, write_faults}
 use Rattle.sound_programs.specs.CallFaults.{calls, sites_of}
 use Rattle.sound_programs.specs.DeclarationFaults.{dummy_without_intent, intent_without_dummy, intent_faults}
 use Rattle.sound_programs.specs.Laws.{Each, entity_of}
 use Rattle.sound_programs.specs.Links.{leads}
-use Rattle.sound_programs.specs.LoopFaults.{is_local_integer, loop_variables, no_local_integer, named_outside, assigned_inside, passed_inside, used_again_inside, loop_faults_in_step, loop_faults_in_unit, named_in_bounds, loop_faults}
+use Rattle.sound_programs.specs.LoopFaults.{is_local_integer, loop_variables, loop_faults_in_step, loop_faults_in_unit, loop_faults}
 use Rattle.sound_programs.specs.Placed.{Expr, Decl, Unit, bare_program, first}
 use Rattle.sound_programs.specs.Placing.{placed}
 use Rattle.sound_programs.specs.Places.{where_place}
 use Rattle.sound_programs.specs.Scopes.{Of_unit, scopes, is_dummy, is_prefix, unit_of, module_variable, is_written_intent}
 use Rattle.sound_programs.specs.Sound.{Sound}
-use Rattle.sound_programs.specs.Walks.{Stands, Step, Site, Actual, actuals, sites, steps_of, parts, parts_of, reference, count_of, is_written, left_of, loop_variable, name_in, name_of_actual, names_in, bounds_in}
+use Rattle.sound_programs.specs.Walks.{Stands, Step, Site, Actual, actuals, sites, steps_of, parts_of, reference, is_written, loop_variable, name_in, names_in}
 use Rattle.sound_programs.proofs.Chains.{reached_within}
 use Rattle.sound_programs.proofs.SoundLaws.{empty_if_nowhere, left_empty, right_empty, map_empty}
 use Rattle.checked_programs.specs.Fitting.{EachTwo}
@@ -35,17 +34,15 @@ use Rattle.checked_programs.proofs.Empties.{each_by, each_from, each_empty, none
 -- ---- Arguments
 
 unit_is_counted : (o : Option plain.Unit) (n : ℕ) → not (unit_takes o n) ≡ false → (v : plain.Unit) → o ≡ Some v → n ≡ length v.dummies
-unit_is_counted o n h v e = eqb-true n (length v.dummies) (not_false (unit_takes (Some v) n) (subst (λ p. not (unit_takes p n) ≡ false) e h))
+unit_is_counted o n h v e = eqb-true _ _ (not_false _ (subst (λ p. not (unit_takes p n) ≡ false) e h))
 
 intrinsic_is_counted : (o : Option Intrinsic) (n : ℕ) → not (intrinsic_takes o n) ≡ false → (which : Intrinsic) → o ≡ Some which → takes which n ≡ true
-intrinsic_is_counted o n h which e = not_false (takes which n) (subst (λ p. not (intrinsic_takes p n) ≡ false) e h)
+intrinsic_is_counted o n h which e = not_false _ (subst (λ p. not (intrinsic_takes p n) ≡ false) e h)
 
 has_all_arguments : (entity : Text → Entity) (step : Step) → counts_differ entity step ≡ [] → HasAllArguments entity step
 has_all_arguments entity step none = record {
-  units = each_from _ (sites entity step) (λ (s : Site) h. unit_is_counted (unit_of (entity s.name.name)) (count_of s.args) (not_placed (not (unit_takes (unit_of (entity s.name.name)) (count_of s.args))) s.name.at h))
-      (left_empty (unit_count_differs entity step) (intrinsic_count_differs entity step) none);
-  intrinsics = each_from _ (flat_map reference (parts_of step)) (λ (s : Site) h. intrinsic_is_counted (intrinsic_named s.name.name) (count_of s.args) (not_placed (not (intrinsic_takes (intrinsic_named s.name.name) (count_of s.args))) s.name.at h))
-      (right_empty (unit_count_differs entity step) (intrinsic_count_differs entity step) none);
+  units = each_from _ (sites entity step) (λ (s : Site) h. unit_is_counted _ _ (not_placed _ _ h)) (left_empty _ _ none);
+  intrinsics = each_from _ (flat_map reference (parts_of step)) (λ (s : Site) h. intrinsic_is_counted _ _ (not_placed _ _ h)) (right_empty _ _ none);
 }
 
 pub arguments_match : (mode : Mode) (file : File) → Sound mode file → ArgumentsMatch file
@@ -57,26 +54,24 @@ arguments_match mode file sound =
 -- ---- Aliases
 
 neither : (same a b : Bool) → same && (a || b) ≡ false → same ≡ true → (a ≡ false) × (b ≡ false)
-neither same a b none h = or_parts a b (other_false same (a || b) none h)
+neither same a b none h = or_parts _ _ (other_false _ _ none h)
 
 two_apart : (entity : Text → Entity) (list : List Actual) → shared_actuals entity list ≡ [] → EachTwo (AreApart entity) list
 two_apart entity [] none = tt
 two_apart entity (a ∷ rest) none = (
-  each_from (share entity a) rest (λ b h. neither (same_variable entity a b) (is_written a) (is_written b) (not_placed (same_variable entity a b && (is_written a || is_written b)) b.at h))
-      (left_empty (flat_map (share entity a) rest) (shared_actuals entity rest) none),
-  two_apart entity rest (right_empty (flat_map (share entity a) rest) (shared_actuals entity rest) none),
+  each_from (share entity a) rest (λ b h. neither _ _ _ (not_placed _ _ h)) (left_empty _ _ none),
+  two_apart entity rest (right_empty _ _ none),
 )
 
 none_of_any : {A : Type 0} (test : A → Bool) (xs : List A) → list_any test xs ≡ false → Each xs (λ x. test x ≡ false)
 none_of_any test [] h = tt
-none_of_any test (x ∷ xs) h = let both : (test x ≡ false) × (list_any test xs ≡ false) = or_parts (test x) (list_any test xs) h in (both.0, none_of_any test xs both.1)
+none_of_any test (x ∷ xs) h = let both : (test x ≡ false) × (list_any test xs ≡ false) = or_parts _ _ h in (both.0, none_of_any test xs both.1)
 
 none_names : (file : File) (callee : Text) (v : Text × Text) → is_named_by (placed file) (bare_program (placed file)) callee v ≡ false → NoneNames file callee v
 none_names file callee v h =
     let p = placed file in
     let q = bare_program p in
-    each_by p.units (λ (w : Unit) (kept : leads (calls p) callee w.name ≡ true → Each (module_variables_of q w) (λ n. same_pair v n ≡ false)) reached.
-    kept (reached_within (calls p) callee w.name reached))
+    each_by p.units (λ (w : Unit) (kept : leads (calls p) callee w.name ≡ true → Each (module_variables_of q w) (λ n. same_pair v n ≡ false)) reached. kept (reached_within _ _ _ reached))
     (each_if_kept (λ (w : Unit). Each (module_variables_of q w) (λ n. same_pair v n ≡ false)) (λ (w : Unit). leads (calls p) callee w.name) p.units
     (each_by (reached_from p callee) (λ w e. none_of_any (same_pair v) (module_variables_of q w) e)
     (none_of_any (λ (w : Unit). list_any (same_pair v) (module_variables_of q w)) (reached_from p callee) h)))
@@ -87,8 +82,7 @@ is_hidden file u callee a none writes =
     let q = bare_program p in
     let variables = module_variables (entity_of file u) u.name (flat_map name_in (option_to_list a.expr)) in
     each_by variables (λ v e. none_names file callee v e)
-    (none_of_any (is_named_by p q callee) variables
-    (other_false (is_written a) (list_any (is_named_by p q callee) variables) (not_placed (is_written a && list_any (is_named_by p q callee) variables) a.at none) writes))
+    (none_of_any (is_named_by p q callee) variables (other_false _ _ (not_placed _ _ none) writes))
 
 all_hidden : (file : File) (u : Unit) (s : Site) (o : Option plain.Unit) → behind_site (placed file) (bare_program (placed file)) u s o ≡ []
     → (v : plain.Unit) → o ≡ Some v → Each (actuals (entity_of file u) s) (IsHidden file u v.name)
@@ -97,13 +91,10 @@ all_hidden file u s o none v e =
     (subst (λ p. behind_site (placed file) (bare_program (placed file)) u s p ≡ []) e none)
 
 are_alone : (file : File) (u : Unit) (s : Site) → alias_at_site (placed file) (bare_program (placed file)) u s ≡ [] → ActualsAreAlone file u s
-are_alone file u s none =
-    let shared = shared_actuals (entity_of file u) (actuals (entity_of file u) s) in
-    let behind = behind_site (placed file) (bare_program (placed file)) u s (unit_of (entity_of file u s.name.name)) in
-    record {
-      apart = two_apart (entity_of file u) (actuals (entity_of file u) s) (left_empty shared behind none);
-      hidden = all_hidden file u s (unit_of (entity_of file u s.name.name)) (right_empty shared behind none);
-    }
+are_alone file u s none = record {
+  apart = two_apart (entity_of file u) (actuals (entity_of file u) s) (left_empty _ _ none);
+  hidden = all_hidden file u s (unit_of (entity_of file u s.name.name)) (right_empty _ _ none);
+}
 
 pub written_actuals_are_alone : (mode : Mode) (file : File) → Sound mode file → WrittenActualsAreAlone file
 written_actuals_are_alone mode file sound =
@@ -116,22 +107,22 @@ written_actuals_are_alone mode file sound =
 
 passed_is_writable : (entity : Text → Entity) (o : Option Expr) → flat_map (λ e. where_place (not (is_writable entity e)) (first e)) (option_to_list o) ≡ [] → (e : Expr) → o ≡ Some e → is_writable entity e ≡ true
 passed_is_writable entity o none e h =
-    not_false (is_writable entity e) (not_placed (not (is_writable entity e)) (first e) (left_empty (where_place (not (is_writable entity e)) (first e)) []
+    not_false _ (not_placed _ _ (left_empty _ _
     (subst (λ p. flat_map (λ e. where_place (not (is_writable entity e)) (first e)) (option_to_list p) ≡ []) h none)))
 
 writes_are_allowed : (entity : Text → Entity) (step : Step) → writes_fixed entity step ≡ [] → WritesAreAllowed entity step
 writes_are_allowed entity step none =
     let all = flat_map (actuals entity) (sites entity step) in
     record {
-      assigned = none_where (λ n. is_fixed (entity n.name)) (flat_map name_in (left_of step)) (left_empty (assigns_fixed entity step) (passes_fixed entity step) none);
+      assigned = none_where (λ n. is_fixed (entity n.name)) _ (left_empty _ _ none);
       passed = each_if_kept (λ (a : Actual). (e : Expr) → a.expr ≡ Some e → IsTrue (is_writable entity e)) is_written all
-          (each_from _ (filter is_written all) (λ (a : Actual) h. passed_is_writable entity a.expr h) (right_empty (assigns_fixed entity step) (passes_fixed entity step) none));
+          (each_from _ (filter is_written all) (λ (a : Actual) h. passed_is_writable entity a.expr h) (right_empty _ _ none));
     }
 
 writes_no_module : (file : File) (w : Unit) → module_writes (bare_program (placed file)) w ≡ [] → WritesNoModule file w
 writes_no_module file w none =
-    each_by (flat_map (λ (s : Stands). names_written (entity_of file w) s.step) (steps_of w)) (λ n h. not_some (module_variable w.name n.name (entity_of file w n.name)) h)
-    (none_where (λ n. is_some (module_variable w.name n.name (entity_of file w n.name))) (flat_map (λ (s : Stands). names_written (entity_of file w) s.step) (steps_of w)) none)
+    each_by (flat_map (λ (s : Stands). names_written (entity_of file w) s.step) (steps_of w)) (λ n h. not_some _ h)
+    (none_where (λ n. is_some (module_variable w.name n.name (entity_of file w n.name))) _ none)
 
 only_in : (o : Option Intent) → is_none o ≡ false → is_written_intent o ≡ false → is_intent_in o ≡ true
 only_in None some h = sym some
@@ -161,13 +152,13 @@ is_pure file u without dummies writes function =
     let unwritten : Each u.decls (λ d. is_dummy (Of_unit u) d.name && is_written_intent d.intent ≡ false) =
     none_kept (λ (d : Decl). is_dummy (Of_unit u) d.name && is_written_intent d.intent) u.decls
     (map_empty (λ (d : Decl). d.at) (filter (λ (d : Decl). is_dummy (Of_unit u) d.name && is_written_intent d.intent) u.decls)
-    (chosen_empty (is_some u.result) (map (λ (d : Decl). d.at) (filter (λ (d : Decl). is_dummy (Of_unit u) d.name && is_written_intent d.intent) u.decls)) dummies function)) in
+    (chosen_empty _ _ dummies function)) in
     record {
-      dummies = each_by u.decls (λ (d : Decl) both. in_dummy (is_dummy (Of_unit u) d.name) (is_prefix u d) d.intent both.0 both.1) (both_of _ _ u.decls named unwritten);
-      unwritten = each_by u.decls (λ (d : Decl) e. other_false (is_dummy (Of_unit u) d.name) (is_written_intent d.intent) e) unwritten;
-      writes = each_by p.units (λ (w : Unit) (kept : leads (calls p) u.name w.name ≡ true → WritesNoModule file w) reached. kept (reached_within (calls p) u.name w.name reached))
+      dummies = each_by u.decls (λ (d : Decl) both. in_dummy _ _ _ both.0 both.1) (both_of _ _ u.decls named unwritten);
+      unwritten = each_by u.decls (λ (d : Decl) e. other_false _ _ e) unwritten;
+      writes = each_by p.units (λ (w : Unit) (kept : leads (calls p) u.name w.name ≡ true → WritesNoModule file w) reached. kept (reached_within _ _ _ reached))
           (each_if_kept (WritesNoModule file) (λ (w : Unit). leads (calls p) u.name w.name) p.units
-          (each_from (module_writes q) (reached_from p u.name) (λ w h. writes_no_module file w h) (chosen_empty (is_some u.result) (flat_map (module_writes q) (reached_from p u.name)) writes function)));
+          (each_from (module_writes q) (reached_from p u.name) (λ w h. writes_no_module file w h) (chosen_empty _ _ writes function)));
     }
 
 pub intents_are_kept : (mode : Mode) (file : File) → Sound mode file → IntentsAreKept file
@@ -180,11 +171,10 @@ intents_are_kept mode file sound =
     each_before_map Of_unit (λ s. dummy_without_intent s ++ intent_without_dummy s ≡ []) p.units (each_in_append (λ s. dummy_without_intent s ++ intent_without_dummy s ≡ []) _ _ in_scopes) in
     record {
       writes = each_by p.units (λ (u : Unit) e.
-          each_from (λ (s : Stands). writes_fixed (entity_of file u) s.step) (steps_of u) (λ s h. writes_are_allowed (entity_of file u) s.step h)
-          (left_empty (flat_map (λ (s : Stands). writes_fixed (entity_of file u) s.step) (steps_of u)) (function_dummies u ++ function_writes p q u) e)) in_units;
+          each_from (λ (s : Stands). writes_fixed (entity_of file u) s.step) (steps_of u) (λ s h. writes_are_allowed (entity_of file u) s.step h) (left_empty _ _ e)) in_units;
       functions = each_by p.units (λ (u : Unit) both.
-          let rest : function_dummies u ++ function_writes p q u ≡ [] = right_empty (flat_map (λ (s : Stands). writes_fixed (entity_of file u) s.step) (steps_of u)) (function_dummies u ++ function_writes p q u) both.0 in
-          is_pure file u (left_empty (dummy_without_intent (Of_unit u)) (intent_without_dummy (Of_unit u)) both.1) (left_empty (function_dummies u) (function_writes p q u) rest) (right_empty (function_dummies u) (function_writes p q u) rest))
+          let rest = right_empty _ _ both.0 in
+          is_pure file u (left_empty _ _ both.1) (left_empty _ _ rest) (right_empty _ _ rest))
           (both_of _ _ p.units in_units dummies);
     }
 
@@ -192,19 +182,17 @@ intents_are_kept mode file sound =
 
 keeps_loop_variables : (entity : Text → Entity) (u : Unit) (s : Stands) → loop_faults_in_step entity u s ≡ [] → KeepsLoopVariables entity u s
 keeps_loop_variables entity u s none =
-    let rest : named_outside u s ++ (assigned_inside s ++ (passed_inside entity s ++ used_again_inside s)) ≡ [] =
-    right_empty (no_local_integer u s) (named_outside u s ++ (assigned_inside s ++ (passed_inside entity s ++ used_again_inside s))) none in
-    let later : assigned_inside s ++ (passed_inside entity s ++ used_again_inside s) ≡ [] =
-    right_empty (named_outside u s) (assigned_inside s ++ (passed_inside entity s ++ used_again_inside s)) rest in
-    let last : passed_inside entity s ++ used_again_inside s ≡ [] = right_empty (assigned_inside s) (passed_inside entity s ++ used_again_inside s) later in
+    let rest = right_empty _ _ none in
+    let later = right_empty _ _ rest in
+    let last = right_empty _ _ later in
     record {
-      local = each_by (loop_variable s.step) (λ n h. not_false (is_local_integer u n.name) h)
-          (none_where (λ n. not (is_local_integer u n.name)) (loop_variable s.step) (left_empty (no_local_integer u s) (named_outside u s ++ (assigned_inside s ++ (passed_inside entity s ++ used_again_inside s))) none));
-      new = none_where (λ n. is_listed s.loops n.name) (loop_variable s.step) (right_empty (passed_inside entity s) (used_again_inside s) last);
-      inside = each_by (names_in s.step) (λ n h. then_true (is_listed (loop_variables u) n.name) (is_listed s.loops n.name) h)
-          (none_where (λ n. is_listed (loop_variables u) n.name && not (is_listed s.loops n.name)) (names_in s.step) (left_empty (named_outside u s) (assigned_inside s ++ (passed_inside entity s ++ used_again_inside s)) rest));
-      assigned = none_where (λ n. is_listed s.loops n.name) (flat_map name_in (left_of s.step)) (left_empty (assigned_inside s) (passed_inside entity s ++ used_again_inside s) later);
-      passed = none_where (λ n. is_listed s.loops n.name) (flat_map (λ (a : Actual). name_of_actual a.expr) (filter is_written (flat_map (actuals entity) (sites entity s.step)))) (left_empty (passed_inside entity s) (used_again_inside s) last);
+      local = each_by (loop_variable s.step) (λ n h. not_false _ h)
+          (none_where (λ n. not (is_local_integer u n.name)) _ (left_empty _ _ none));
+      new = none_where (λ n. is_listed s.loops n.name) _ (right_empty _ _ last);
+      inside = each_by (names_in s.step) (λ n h. then_true _ _ h)
+          (none_where (λ n. is_listed (loop_variables u) n.name && not (is_listed s.loops n.name)) _ (left_empty _ _ rest));
+      assigned = none_where (λ n. is_listed s.loops n.name) _ (left_empty _ _ later);
+      passed = none_where (λ n. is_listed s.loops n.name) _ (left_empty _ _ last);
     }
 
 pub loop_variables_stay_inside : (mode : Mode) (file : File) → Sound mode file → LoopVariablesStayInside file
@@ -213,9 +201,7 @@ loop_variables_stay_inside mode file sound =
     let in_units : Each p.units (λ u. loop_faults_in_unit (entity_of file u) u ≡ []) = each_empty (λ (u : Unit). loop_faults_in_unit (entity_of file u) u) p.units (empty_if_nowhere (loop_faults p) sound.loop_variables_are_their_loops') in
     record {
       steps = each_by p.units (λ (u : Unit) e.
-          each_from (loop_faults_in_step (entity_of file u) u) (steps_of u) (λ s h. keeps_loop_variables (entity_of file u) u s h)
-          (left_empty (flat_map (loop_faults_in_step (entity_of file u) u) (steps_of u)) (named_in_bounds u) e)) in_units;
+          each_from (loop_faults_in_step (entity_of file u) u) (steps_of u) (λ s h. keeps_loop_variables (entity_of file u) u s h) (left_empty _ _ e)) in_units;
       bounds = each_by p.units (λ (u : Unit) e.
-          none_where (λ n. is_listed (loop_variables u) n.name) (flat_map name_in (flat_map parts (bounds_in u.decls)))
-          (right_empty (flat_map (loop_faults_in_step (entity_of file u) u) (steps_of u)) (named_in_bounds u) e)) in_units;
+          none_where (λ n. is_listed (loop_variables u) n.name) _ (right_empty _ _ e)) in_units;
     }

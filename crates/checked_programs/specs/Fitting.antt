@@ -1,5 +1,5 @@
--- The kinds and ranks of a sound program: what stands in each of its steps fits where it stands. A kind that isn't known is
--- that of a reference to no array and no function, or of an expression with such a part.
+-- The kinds and ranks of a sound program: what stands in each of its steps fits where it stands. Of an expression whose kind
+-- isn't known nothing is said but its rank.
 use Rattle.std.specs.Prelude.{◌≡◌, ℤ, pos, IsTrue, true, false, List, [], ◌∷◌, ◌++◌, length, flat_map, Option, Some, None, ◌||◌, Bool, is_some, nat_lt, ⊤}
 use Rattle.fort_arith.specs.declared.kind.Kind.{Kind}
 use Rattle.fort_arith.specs.declared.kind.Kind.TheVariants.{Logical}
