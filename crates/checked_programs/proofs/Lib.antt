@@ -1,2 +1,6 @@
 mod AllKinds
+mod Empties
+mod KindsFit
+mod RanksFit
+mod RulesKept
 mod SoundPrograms

@@ -1,6 +1,5 @@
 -- A program into which forms nest, and which has no fault in any phase, is sound.
 use Rattle.std.proofs.Common.{◌≡◌, List, [], subst, inl, inr}
-use Rattle.std.specs.Prelude.{◌⊎◌, true, false}
 use Rattle.std.proofs.lemmas.Bool.{false≢true}
 use Rattle.fort_tree.specs.declared.choice.Mode.{Mode}
 use Rattle.fort_tree.specs.declared.unit.File.{File}
