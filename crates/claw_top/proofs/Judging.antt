@@ -1,5 +1,5 @@
 -- Faults of the names, calls and kinds of a program stand in the files of its lines.
-use Rattle.std.proofs.Common.{◌≡◌, ℕ, ◌<◌, List, [], inl, inr, sym, subst, Ok, Err, IfOk}
+use Rattle.std.proofs.Common.{◌≡◌, ℕ, ◌<◌, List, [], inl, inr, sym, subst, Ok, Err, IfOk, IfErr}
 use Rattle.std.specs.declared.result.Result.{Result}
 use Rattle.fort_tree.specs.declared.choice.Mode.{Mode}
 use Rattle.fort_tree.specs.declared.choice.Mode.TheVariants.{Source}
@@ -46,6 +46,10 @@ stops_judged count lines program (Fails fault) before spelled (found, first, is)
   subst (λ (f : Fault). f.place.file < count) (sym is) (at_first_fault (InFiles count) Source program (program_in_files count lines program before spelled) found first),
 )
 stops_judged count lines program NoMemory before spelled h = tt
+
+pub stops_of : {A : Type 0} (count : ℕ) (lines : List Line) (program : File) (r : Result A Stop) → AreBefore count lines → IsProgram lines program → IfErr r (HasJudgedStop program) → IfErr r (HaveProgramStop count lines)
+stops_of count lines program (Ok a) before spelled h = tt
+stops_of count lines program (Err stop) before spelled h = stops_judged count lines program stop before spelled h
 
 -- ---- the answer of the reader
 

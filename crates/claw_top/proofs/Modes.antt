@@ -39,19 +39,19 @@ of_directives mode after rows lines faults (directive_first {ys = ys} reads more
 
 of_before : (mode : Mode) (at : Place) (lines : List Written) → All mode lines → All mode (lines_before at lines)
 of_before mode at [] all = tt
-of_before mode at (line ∷ lines) all = go (is_before line.at at)
+of_before mode at (line ∷ lines) all = go (is_before line.at at) (of_before mode at lines all.1)
   where
-    go : (b : Bool) → All mode (cond b (line ∷ lines_before at lines) [])
-    go true = (all.0, of_before mode at lines all.1)
-    go false = tt
+    go : (b : Bool) → All mode (lines_before at lines) → All mode (cond b (line ∷ lines_before at lines) [])
+    go true rest = (all.0, rest)
+    go false rest = tt
 
 of_behind : (mode : Mode) (at : Place) (lines : List Written) → All mode lines → All mode (lines_behind at lines)
 of_behind mode at [] all = tt
-of_behind mode at (line ∷ lines) all = go (is_before line.at at)
+of_behind mode at (line ∷ lines) all = go (is_before line.at at) (of_behind mode at lines all.1)
   where
-    go : (b : Bool) → All mode (cond b (lines_behind at lines) (line ∷ lines))
-    go true = of_behind mode at lines all.1
-    go false = all
+    go : (b : Bool) → All mode (lines_behind at lines) → All mode (cond b (lines_behind at lines) (line ∷ lines))
+    go true rest = rest
+    go false rest = all
 
 of_both : (mode : Mode) (statements directives : List Written) → All mode statements → All mode directives → All mode (in_order statements directives)
 of_both mode [] directives a b = b

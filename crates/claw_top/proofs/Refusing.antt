@@ -55,7 +55,7 @@ nothing_nests mode forms ms us order e (module_first (a_module head inside ends)
   where
     no_form : (f : Form) (fs : List Form) → f ∷ fs ≡ [] → ⊥
     no_form f fs h = cc
-nothing_nests mode forms ms us order e (unit_first (subroutine head paired body ends) h) = absurd (no_form _ _ e)
+nothing_nests mode forms ms us order e (unit_first (subroutine head pair body ends) h) = absurd (no_form _ _ e)
   where
     no_form : (f : Form) (fs : List Form) → f ∷ fs ≡ [] → ⊥
     no_form f fs h = cc

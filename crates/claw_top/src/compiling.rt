@@ -1,8 +1,9 @@
 // The compiler: the program that is made of the sources, or their first fault.
-ghost use Rattle.std.specs.Prelude.{◌≡◌, ◌≤◌, IfOk, IfErr, length};
+ghost use Rattle.std.specs.Prelude.{◌≡◌, ◌≤◌, [], IfOk, IfErr, length};
 ghost use Rattle.fort_tree.specs.declared.choice.Mode.TheVariants.{Source};
 ghost use Rattle.fort_units.specs.Program.{IsProgram};
 ghost use Rattle.sound_programs.specs.Sound.{IsNested, Sound};
+ghost use Rattle.translated_programs.specs.NotBuilt.{unbuilt};
 ghost use Rattle.claw_top.specs.Compile.{Compiles, IsTranslation};
 ghost use Rattle.claw_top.specs.Judged.{HasJudgedStop};
 ghost use Rattle.claw_top.specs.Limits.{most_files, most_bytes, most_lines, total_length};
@@ -140,10 +141,29 @@ fn translate(
     ensures compiles { IfOk result (λ compiled. IsTranslation (bytes_of sources.now) (outcome_of compiled)) }
     ensures in_files { IfOk result (λ compiled. IsInFiles (length sources.now) (outcome_of compiled)) }
 {
-    if let Some(place) = first_unbuilt(alloc, program)? {
-        let begin = begins_at(place, lines.items());
-        return Ok(Compiled::Fault(Fault::outside_profile(begin, 13)));
+    match first_unbuilt(alloc, program)? {
+        None => make(alloc, sources, lines, program),
+        Some(place) => {
+            let begin = begins_at(place, lines.items());
+            Ok(Compiled::Fault(Fault::outside_profile(begin, 13)))
+        }
     }
+}
+
+// Makes the program for all columns of a sound program of which nothing is unbuilt.
+fn make(
+    alloc: Global,
+    sources: &[Vec<u8>],
+    lines: &Seq<Line>,
+    program: &File,
+) -> Result<Compiled, NoMemory>
+    requires lines { HaveLines (bytes_of sources.now) lines.now }
+    requires spelled { IsProgram lines.now program.now }
+    requires sound { Sound Source program.now }
+    requires built { unbuilt program.now ≡ [] }
+    ensures compiles { IfOk result (λ compiled. IsTranslation (bytes_of sources.now) (outcome_of compiled)) }
+    ensures in_files { IfOk result (λ compiled. IsInFiles (length sources.now) (outcome_of compiled)) }
+{
     units_are_translated();
     sound_programs_are_translated();
     written_by_number();

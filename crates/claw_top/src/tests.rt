@@ -62,7 +62,13 @@ fn translates_other_units(rt: HostRuntime) -> Result<(), Fail> {
     let written = format!(in rt.alloc(); "{WRITTEN_PHYSICS}{TRANSLATED}")?;
     assert!(rt; is_translated(&rt, PHYSICS, WRITTEN_PHYSICS.as_bytes())?);
     assert!(rt; is_translated(&rt, both.as_str(), written.as_bytes())?);
-    assert!(rt; is_translated(&rt, "  module m\n  end module\n", b"module m\n  implicit none\nend module m\n".as_slice())?);
+    assert!(rt;
+        is_translated(
+            &rt,
+            "  module m\n  end module\n",
+            b"module m\n  implicit none\nend module m\n".as_slice()
+        )?
+    );
     Ok(())
 }
 
