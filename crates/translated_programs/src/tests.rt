@@ -71,29 +71,46 @@ fn statement(alloc: Global) -> Option<Stmt> {
     })
 }
 
-/// A column unit `f` of `a`, with `define dimension j(1:n)` and `parallelize data(a)`.
-fn column_unit(alloc: Global) -> Option<Unit> {
-    let decl = Decl {
+/// `define dimension j(1:n)` and `parallelize data(a)`
+fn marks(alloc: Global) -> Option<Seq<Directive>> {
+    let define = directive(alloc, DirectiveWord::Define, b"j", variable(b"n", 3))?;
+    let parallelize = directive(alloc, DirectiveWord::Parallelize, b"a", None)?;
+    two(alloc, define, parallelize)
+}
+
+fn declaration(alloc: Global) -> Option<Decl> {
+    Some(Decl {
         name: Name::read(b"a")?,
         at: at(2),
         kind: Kind::I4,
         intent: Some(Intent::InOut),
         shape: Seq::new(alloc),
         value: None,
-    };
-    let define = directive(alloc, DirectiveWord::Define, b"j", variable(b"n", 3))?;
-    let parallelize = directive(alloc, DirectiveWord::Parallelize, b"a", None)?;
+    })
+}
+
+/// A subroutine of this name, without dummies.
+fn subroutine(alloc: Global, text: &[u8], line: u32, body: Seq<Stmt>) -> Option<Unit> {
     Some(Unit {
-        name: Name::read(b"f")?,
-        at: at(1),
-        dummies: one(alloc, named(b"a", 1)?)?,
+        name: Name::read(text)?,
+        at: at(line),
+        dummies: Seq::new(alloc),
         result: None,
         uses: Seq::new(alloc),
-        decls: one(alloc, decl)?,
-        marks: two(alloc, define, parallelize)?,
-        body: one(alloc, statement(alloc)?)?,
+        decls: Seq::new(alloc),
+        marks: Seq::new(alloc),
+        body,
         host: None,
     })
+}
+
+/// A column unit `f` of `a`.
+fn column_unit(alloc: Global) -> Option<Unit> {
+    let mut unit = subroutine(alloc, b"f", 1, one(alloc, statement(alloc)?)?)?;
+    unit.dummies.push(named(b"a", 1)?).ok()?;
+    unit.decls.push(declaration(alloc)?).ok()?;
+    unit.marks = marks(alloc)?;
+    Some(unit)
 }
 
 /// A subroutine of this name that calls another.
@@ -104,17 +121,7 @@ fn caller(alloc: Global, text: &[u8], callee: &[u8]) -> Option<Unit> {
         args: Seq::new(alloc),
         forward: false,
     };
-    Some(Unit {
-        name: Name::read(text)?,
-        at: at(7),
-        dummies: Seq::new(alloc),
-        result: None,
-        uses: Seq::new(alloc),
-        decls: Seq::new(alloc),
-        marks: Seq::new(alloc),
-        body: one(alloc, call)?,
-        host: None,
-    })
+    subroutine(alloc, text, 7, one(alloc, call)?)
 }
 
 /// The column unit, and one without columns.
