@@ -56,7 +56,7 @@ pub(crate) fn compile(
 }
 
 // The logical lines of all sources, one source after the other.
-fn all_lines(alloc: Global, sources: &[Vec<u8>]) -> Result<Seq<Line>, Stop>
+pub(crate) fn all_lines(alloc: Global, sources: &[Vec<u8>]) -> Result<Seq<Line>, Stop>
     requires few { length sources.now ≤ most_files }
     requires small { total_length (bytes_of sources.now) ≤ most_bytes }
     ensures lines { IfOk result (HaveLines (bytes_of sources.now)) }
@@ -97,7 +97,11 @@ fn compile_lines(
 }
 
 // The program of the lines of the sources, which is sound.
-fn program_of(alloc: Global, sources: &[Vec<u8>], lines: &Seq<Line>) -> Result<Checked, Stop>
+pub(crate) fn program_of(
+    alloc: Global,
+    sources: &[Vec<u8>],
+    lines: &Seq<Line>,
+) -> Result<Checked, Stop>
     requires lines { HaveLines (bytes_of sources.now) lines.now }
     requires in_files { AreBefore (length sources.now) lines.now }
     requires few { length lines.now ≤ most_lines }

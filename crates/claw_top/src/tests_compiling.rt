@@ -1,6 +1,7 @@
 ghost use Rattle.std.specs.Prelude.{◌≤◌, length, IfOk};
 
-use crate::compiling::{Compiled, compile};
+use crate::compiling::{Compiled, all_lines, compile, program_of as checked_program_of};
+use checked_programs::Checked;
 use claw_words::Command;
 use fort_lex::lines;
 use fort_spell::spell;
@@ -167,6 +168,27 @@ fn two_sources(rt: HostRuntime) {
 fn second_source_alone(rt: HostRuntime) {
     let fault = fault_of_two(rt.alloc(), "", SOURCE).expect(&rt, "room");
     assert!(rt; fault.is_none());
+}
+
+// The sound program of a small text, if it has no fault.
+fn checked_of(alloc: Global, text: &str) -> Option<Checked> {
+    let mut sources = Vec::new(alloc);
+    sources.push(bytes_of(alloc, text).ok()?).ok()?;
+    let all = all_lines(alloc, &sources).ok()?;
+    checked_program_of(alloc, &sources, &all).ok()
+}
+
+// A sound program has the scopes and calls of its units.
+#[test]
+fn sound_program(rt: HostRuntime) {
+    let checked = checked_of(rt.alloc(), "subroutine s\ncall t\nend\nsubroutine t\nend\n").expect(
+        &rt, "sound",
+    );
+    checked.is_sound();
+    assert_eq!(rt; checked.symbols().units().len(), 2);
+    assert_eq!(rt; checked.graph().order().len(), 2);
+    assert_eq!(rt; checked.file().units.len(), 2);
+    assert_eq!(rt; checked.into_file().units.len(), 2);
 }
 
 // The program of a small text, where it has no fault.
