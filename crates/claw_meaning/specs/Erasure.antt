@@ -16,14 +16,18 @@ use Rattle.claw_meaning.specs.Columns.{without, added_dummy}
 use Rattle.claw_meaning.specs.Dependence.{is_size, called_in, is_column_called, dummies_called}
 use Rattle.claw_meaning.specs.Interface.{Widening, widening_of, no_widening, is_constant_decl, is_shared_decl, is_other_decl, is_fresh}
 
+-- A column unit that is called: its dummies, and whether calls have one actual more, for an added dummy.
+pub record ColumnCallee : Type 0 where
+  pub dummies : List Dummy
+  pub has_added : Bool
+
 -- How a unit is read: the ranks that the source declares; the place, from 0, of the subscript that a wide variable's
--- references lose; the variable of the column loops; and of each unit that is called its dummies, where it is a column
--- unit.
+-- references lose; the variable of the column loops; and the column units among those that are called.
 pub record Reading : Type 0 where
   pub rank : Text → ℕ
   pub lost : Text → Option ℕ
   pub id : Option Text
-  pub columns : Text → Option (List Dummy)
+  pub columns : Text → Option ColumnCallee
 
 abbrev pub colons : ℕ → Subscripts
 colons zero = No_more
@@ -103,17 +107,23 @@ module _ (r : Reading) where
   read_bare true other = read other
   read_bare false e = read e
 
-  -- the actuals for these dummies; what stands behind them was added
-  abbrev pub read_actuals : List Dummy → Subscripts → Subscripts
-  read_actuals [] args = No_more
-  read_actuals (d ∷ ds) No_more = No_more
-  read_actuals (d ∷ ds) (At e rest) = At (read_bare d.is_column e) (read_actuals ds rest)
-  read_actuals (d ∷ ds) (Section lower upper rest) = read_actuals ds rest
-  read_actuals (d ∷ ds) (Between m n rest) = read_actuals ds rest
+  -- of what stands behind the actuals of the dummies just the first goes, where one was added
+  abbrev pub read_behind : Bool → Subscripts → Subscripts
+  read_behind false args = read_all args
+  read_behind true (At e rest) = read_all rest
+  read_behind true other = read_all other
 
-  abbrev pub read_call : Option (List Dummy) → Subscripts → Subscripts
+  -- the actuals for these dummies, and what stands behind them
+  abbrev pub read_actuals : Bool → List Dummy → Subscripts → Subscripts
+  read_actuals added [] args = read_behind added args
+  read_actuals added (d ∷ ds) No_more = No_more
+  read_actuals added (d ∷ ds) (At e rest) = At (read_bare d.is_column e) (read_actuals added ds rest)
+  read_actuals added (d ∷ ds) (Section lower upper rest) = Section (read_limit lower) (read_limit upper) (read_actuals added ds rest)
+  read_actuals added (d ∷ ds) (Between m n rest) = Between m n (read_actuals added ds rest)
+
+  abbrev pub read_call : Option ColumnCallee → Subscripts → Subscripts
   read_call None args = read_all args
-  read_call (Some ds) args = read_actuals ds args
+  read_call (Some callee) args = read_actuals callee.has_added callee.dummies args
 
 abbrev pub appended : Stmts → Stmts → Stmts
 appended Done others = others
@@ -206,9 +216,18 @@ rank_of_entity other = 0
 abbrev pub rank_in : Program → Unit → Text → ℕ
 rank_in p u x = rank_of_entity (visible p u x)
 
-abbrev pub column_dummies : Option Unit → Option (List Dummy)
-column_dummies None = None
-column_dummies (Some v) = if is_column_unit v then Some (dummies_of v) else None
+-- of a unit that is called what a reading wants, where it is a column unit
+abbrev pub column_callee : (Unit → Bool) → Option Unit → Option ColumnCallee
+column_callee has_added None = None
+column_callee has_added (Some v) = if is_column_unit v then Some (record { dummies = dummies_of v; has_added = has_added v }) else None
+
+-- a call in the source has no actual for an added dummy
+abbrev pub source_callee : Option Unit → Option ColumnCallee
+source_callee = column_callee (λ v. false)
+
+-- a call in the written program has one where the callee has an added dummy
+abbrev pub written_callee : Program → Option Unit → Option ColumnCallee
+written_callee p = column_callee (λ v. is_some (added_dummy p v))
 
 -- the declarations in their three groups
 abbrev pub grouped : Unit → List Decl → List Decl
@@ -219,7 +238,7 @@ grouped u decls =
     ++ filter (λ d. is_other_decl u d && is_fresh d.name) decls))
 
 abbrev pub bare_reading : Program → Unit → Reading
-bare_reading p u = record { rank = rank_in p u; lost = λ x. None; id = None; columns = λ x. column_dummies (called_in p u x) }
+bare_reading p u = record { rank = rank_in p u; lost = λ x. None; id = None; columns = λ x. source_callee (called_in p u x) }
 
 -- a unit of the directed source without places, `define`, `parallelize` and `forward`
 abbrev pub bare_unit : Program → Unit → Unit
@@ -242,7 +261,7 @@ id_if true id = Some id
 id_if false id = None
 
 abbrev pub erased_reading : Program → Unit → Widening → Reading
-erased_reading p u w = record { rank = rank_in p u; lost = lost_place w; id = id_if (is_column_unit u) w.id; columns = λ x. column_dummies (called_in p u x) }
+erased_reading p u w = record { rank = rank_in p u; lost = lost_place w; id = id_if (is_column_unit u) w.id; columns = λ x. written_callee p (called_in p u x) }
 
 abbrev pub narrow : Widening → Decl → Decl
 narrow w d = if w.wide d.name then record d { shape = without (w.place d.name) d.shape } else d

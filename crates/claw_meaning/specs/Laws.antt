@@ -6,7 +6,7 @@ use Rattle.courses.specs.Logs.{Agree, Alike}
 use Rattle.courses.specs.Renaming.{KeepsApart, RenamedRun, renamed, view}
 use Rattle.courses.specs.Course.{Course, line}
 use Rattle.courses.specs.Frames.{IsFrame, look, filled}
-use Rattle.courses.specs.Weaving.{AreApart, IsOrderly}
+use Rattle.courses.specs.Weaving.{AreApart, IsOrderly, Prefixes}
 use Rattle.courses.specs.Plans.{Plan, orders_of}
 use Rattle.claw_meaning.specs.Syntax.{Text, Unit, Program}
 use Rattle.claw_meaning.specs.Frames.{Frame, entries, with_store, started}
@@ -26,9 +26,13 @@ RunsCanMove =
 abbrev pub RunsAreApart : Type 0
 RunsAreApart = (p : Program) (u : Unit) (frame : Frame) → AreApart (unit_course p u frame) → (plan : Plan) → Apart (exec p u frame plan)
 
--- Where the marked loops are orderly, every schedule of single accesses ends as every plan does.
+-- Where the marked loops are orderly, every schedule of single accesses ends as every plan does, with the same result, and in
+-- each marked loop, those in callees too, each iteration's events are under the schedule a prefix of those that it makes alone
+-- from the loop's opening store.
 pub record SchedulesAgree (p : Program) (u : Unit) (frame : Frame) (plan : Plan) (schedule : List ℕ) : Type 0 where
   pub end : (woven_exec p u frame schedule).end ≡ (exec p u frame plan).end
+  pub result : (woven_exec p u frame schedule).result ≡ (exec p u frame plan).result
+  pub prefix : Prefixes (unit_course p u frame) schedule (started u frame)
 
 abbrev pub OrderlyRunsAgree : Type 0
 OrderlyRunsAgree =

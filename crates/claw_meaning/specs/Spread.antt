@@ -259,13 +259,44 @@ abbrev pub AreInner : Spreading → Stmts → Type 0
 AreInner k Done = ⊤
 AreInner k (Then s rest) = (all_inner k (read_stmt k.reading s) ≡ true) × AreInner k rest
 
--- a column loop: its head, its mark, a body whose members erase to inner statements, and no column loop inside
+-- no loop in these statements has a mark
+abbrev mutual
+  pub is_unmarked : Stmt → Bool
+  is_unmarked (Assign left right) = true
+  is_unmarked (Call x args forward) = true
+  is_unmarked (If arms other) = arms_unmarked arms && otherwise_unmarked other
+  is_unmarked (Select e cases other) = cases_unmarked cases && otherwise_unmarked other
+  is_unmarked (Do h body mark) = not (is_some mark) && are_unmarked body
+  is_unmarked (Block d body) = are_unmarked body
+  is_unmarked (Piece body) = are_unmarked body
+  is_unmarked Exit = true
+  is_unmarked Cycle = true
+  is_unmarked Return = true
+
+  pub are_unmarked : Stmts → Bool
+  are_unmarked Done = true
+  are_unmarked (Then s rest) = is_unmarked s && are_unmarked rest
+
+  pub arms_unmarked : Arms → Bool
+  arms_unmarked No_arm = true
+  arms_unmarked (Arm test body rest) = are_unmarked body && arms_unmarked rest
+
+  pub cases_unmarked : Cases → Bool
+  cases_unmarked No_case = true
+  cases_unmarked (Case ranges body rest) = are_unmarked body && cases_unmarked rest
+
+  pub otherwise_unmarked : Otherwise → Bool
+  otherwise_unmarked Nothing_else = true
+  otherwise_unmarked (Else body) = are_unmarked body
+
+-- a column loop: its head, its mark, a body whose members erase to inner statements, and inside it no column loop and no mark
 abbrev pub IsColumnLoop : Spreading → Head → Stmts → Option Directive → Type 0
 IsColumnLoop k h body mark =
     HasHead k.widening h
     × HasMark (loop_word k.kind) (privates k body) mark
     × AreInner k body
     × (hold_loop k.widening.id body ≡ false)
+    × (are_unmarked body ≡ true)
 
 abbrev pub begins_with_loop : Text → Stmts → Bool
 begins_with_loop id Done = false
@@ -310,36 +341,6 @@ module _ (k : Spreading) where
     pub SpreadOtherwise : Otherwise → Type 0
     SpreadOtherwise Nothing_else = ⊤
     SpreadOtherwise (Else body) = SpreadStmts body
-
--- no loop of a unit without columns has a mark
-abbrev mutual
-  pub is_unmarked : Stmt → Bool
-  is_unmarked (Assign left right) = true
-  is_unmarked (Call x args forward) = true
-  is_unmarked (If arms other) = arms_unmarked arms && otherwise_unmarked other
-  is_unmarked (Select e cases other) = cases_unmarked cases && otherwise_unmarked other
-  is_unmarked (Do h body mark) = not (is_some mark) && are_unmarked body
-  is_unmarked (Block d body) = are_unmarked body
-  is_unmarked (Piece body) = are_unmarked body
-  is_unmarked Exit = true
-  is_unmarked Cycle = true
-  is_unmarked Return = true
-
-  pub are_unmarked : Stmts → Bool
-  are_unmarked Done = true
-  are_unmarked (Then s rest) = is_unmarked s && are_unmarked rest
-
-  pub arms_unmarked : Arms → Bool
-  arms_unmarked No_arm = true
-  arms_unmarked (Arm test body rest) = are_unmarked body && arms_unmarked rest
-
-  pub cases_unmarked : Cases → Bool
-  cases_unmarked No_case = true
-  cases_unmarked (Case ranges body rest) = are_unmarked body && cases_unmarked rest
-
-  pub otherwise_unmarked : Otherwise → Bool
-  otherwise_unmarked Nothing_else = true
-  otherwise_unmarked (Else body) = are_unmarked body
 
 -- the names of the units that statements call or refer to, and of other names in them
 abbrev mutual

@@ -26,11 +26,16 @@ no_loop : (id : Text) (assigned : List (Text × Expr)) → hold_loop id (wide_as
 no_loop id [] = refl
 no_loop id (a ∷ rest) = no_loop id rest
 
+-- nor any with a mark
+no_mark : (id : Text) (assigned : List (Text × Expr)) → are_unmarked (wide_assignments id assigned) ≡ true
+no_mark id [] = refl
+no_mark id (a ∷ rest) = no_mark id rest
+
 pub loop_spread : (p : Program) (u : Scalars) → IsScalars u → (assigned : List (Text × Expr)) → AreSums u.dummies assigned → SpreadStmts (spread_so p u) (looped u.lower u.upper u.id assigned)
 loop_spread p u w [] s = tt
 loop_spread p u w (a ∷ rest) s =
     rw (same_itself u.id)
-    (((refl, refl, refl, refl), tt, all_are_inner p u w (a ∷ rest) s, no_loop u.id (a ∷ rest)), refl, tt)
+    (((refl, refl, refl, refl), tt, all_are_inner p u w (a ∷ rest) s, no_loop u.id (a ∷ rest), no_mark u.id (a ∷ rest)), refl, tt)
 
 pub statements_spread : (u : Scalars) → IsScalars u → Spread (program_of (source_unit u)) (program_of (wide_unit u)) (λ i x. is_listed u.dummies x) (λ i x. false) Cpu Plain
 statements_spread u w =

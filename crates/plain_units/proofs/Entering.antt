@@ -14,14 +14,14 @@ use Rattle.claw_meaning.specs.Syntax.{Text, Decl, Stmts, Unit, Program}
 use Rattle.claw_meaning.specs.Scope.{Entity, Unknown, Variable, Constant, Procedure, decl_named, visible, unit_named}
 use Rattle.claw_meaning.specs.Scene.{Meant, Held, Called, Dummy, Passed, Callee, Scene}
 use Rattle.claw_meaning.specs.Statements.{meanings}
-use Rattle.claw_meaning.specs.Dependence.{is_column_called}
+use Rattle.claw_meaning.specs.Dependence.{called_in, is_column_called}
 use Rattle.claw_meaning.specs.Units.{is_column_unit, is_column_of, is_listed, data_of, directive_of, is_word_parallelize, is_array_decl, intent_or_in, dummy_of, dummies_of, declared_bounds, constant_whole, known_in_module, known_here, known_in_unit, Given, bounds_from, meant_by, scene_of, given_by_actuals, own_elements, fits, copied_in, given_out, results_of, with_all, making, body_course, entered, callee_of, no_callee, callee_or_none, callees_to}
 use Rattle.plain_units.specs.Regrouped.{regrouped}
 use Rattle.plain_units.specs.Calling.{unit_run, runs_column}
 use Rattle.plain_units.specs.Translated.{IsPlain}
 use Rattle.plain_units.proofs.Alike.{Alike, gives, fails, tells_left, tells_right, alike_then}
 use Rattle.plain_units.proofs.Parts.{AlikeCallees, callees, if_alike, with_values_alike, stored_alike}
-use Rattle.plain_units.proofs.Trees.{meanings_alike}
+use Rattle.plain_units.proofs.Trees.{meanings_alike, both_false}
 use Rattle.plain_units.proofs.Seeing.{plain_row, column_row, Rows, Found, neither, two, SameEntity, unknown, variable, constant, procedure, row_name, row_kind, same_decl, target, found_named, module_same, visible_same}
 
 -- Dummies
@@ -132,7 +132,7 @@ module _ (p : Program) (ts : List Unit) (rows : Rows p p.units ts) where
       both_made given =
           making_left p u given u.decls _ _
           (making_right q (regrouped u) given (regrouped u).decls _ _
-          (meanings_alike (meaning_in p u given) f f' (λ x. runs_column p u x ≡ false) (λ x unit kind s m. alike unit (run_is given (visible p u x) unit kind s m)) u.body h.calls h.undirected.1))
+          (meanings_alike (meaning_in p u given) f f' (λ x. runs_column p u x ≡ false) (λ x unit kind s m. alike unit (run_is given (visible p u x) unit kind (both_false (is_column_called (called_in p u x)) (is_column_called (unit_run p (visible p u x))) s).1 m)) u.body h.calls h.undirected.1))
 
       -- the statements of a plain unit, with what it makes before them
       pub body_alike : (given : Given) → Alike Way (body_course p f u given) (body_course q f' (regrouped u) given)

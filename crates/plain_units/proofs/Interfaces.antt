@@ -7,15 +7,19 @@ use Rattle.std.proofs.lemmas.List.{map-id, append-nil}
 use mathlib.Core.Path.{ap₂}
 use Rattle.fort_tree.specs.Intrinsic.{intrinsic_named}
 use Rattle.claw_meaning.specs.Syntax.{Text, Expr, Numeral, Boolean, Name, Reference, Signed, Binary, Paren, Subscripts, No_more, At, Section, Between, Limit, Unbounded, Bounded, Decl, Directive, Stmt, Assign, Call, If, Select, Do, Block, Piece, Exit, Cycle, Return, Stmts, Done, Then, Arms, No_arm, Arm, Cases, No_case, Case, Otherwise, Nothing_else, Else, Unit, Program}
-use Rattle.claw_meaning.specs.Dependence.{is_size, called_in}
-use Rattle.claw_meaning.specs.Units.{is_column_unit}
+use Rattle.claw_meaning.specs.Scope.{visible}
+use Rattle.claw_meaning.specs.Columns.{added_dummy}
+use Rattle.claw_meaning.specs.Dependence.{is_size, called_in, is_column_called}
+use Rattle.claw_meaning.specs.Units.{is_column_unit, dummies_of}
 use Rattle.claw_meaning.specs.Interface.{widening, no_widening, widening_of, AsksOther, RefersWide, HasDimension, AllHaveDimension, LimitHasDimension, OptionHasDimension, CallHasDimension, ActualHasDimension, ActualsHaveDimension, StmtHasDimension, StmtsHaveDimension, ArmsHaveDimension, CasesHaveDimension, OtherwiseHasDimension, column_called, HasGuard, UnitInterface}
-use Rattle.claw_meaning.specs.Erasure.{Reading, read_stmts, rank_in, column_dummies, grouped, bare_unit, lost_place, id_if, erased_reading, narrow, is_text, was_there, behind_guard, erased_unit}
+use Rattle.claw_meaning.specs.Erasure.{Reading, read_stmts, rank_in, column_callee, source_callee, written_callee, grouped, bare_reading, bare_unit, lost_place, id_if, erased_reading, narrow, is_text, was_there, behind_guard, erased_unit}
 use Rattle.claw_meaning.specs.Spread.{is_unmarked, are_unmarked, arms_unmarked, cases_unmarked, otherwise_unmarked, has_routine}
 use Rattle.plain_units.specs.Regrouped.{regrouped}
 use Rattle.plain_units.specs.Undirected.{is_undirected, are_undirected, arms_undirected, cases_undirected, otherwise_undirected}
-use Rattle.plain_units.specs.Translated.{Translates, ArePlain}
-use Rattle.plain_units.proofs.Trees.{both}
+use Rattle.plain_units.specs.Calling.{unit_run, runs_column}
+use Rattle.plain_units.specs.Translated.{Translates, IsPlain, ArePlain}
+use Rattle.plain_units.proofs.Trees.{both, both_false}
+use Rattle.plain_units.proofs.Readings.{stmts_same}
 use Rattle.plain_units.proofs.Declared.{written_is}
 use Rattle.plain_units.proofs.Seeing.{Row, plain_row, column_row, rows_of, row_at}
 
@@ -151,6 +155,10 @@ all_kept (x ∷ xs) = ap (λ ys. x ∷ ys) (all_kept xs)
 abbrev read_as : Unit → List Text → List Decl → Stmts → Unit
 read_as u dummies decls body = record { name = u.name; dummies = dummies; result = u.result; uses = u.uses; decls = decls; marks = []; body = body; host = u.host }
 
+no_callee : (has_added : Unit → Bool) (called : Option Unit) → is_column_called called ≡ false → column_callee has_added called ≡ None
+no_callee has_added None e = refl
+no_callee has_added (Some v) e = ap (λ b. if b then Some (record { dummies = dummies_of v; has_added = has_added v }) else None) e
+
 module _ (p : Program) (u : Unit) (e : is_column_unit u ≡ false) where
   no_widening_is : (wide : Text → Bool) → widening_of p u wide ≡ no_widening
   no_widening_is wide = ap (λ b. if b then widening p u wide else no_widening) e
@@ -168,17 +176,27 @@ module _ (p : Program) (u : Unit) (e : is_column_unit u ≡ false) where
   }
 
   abbrev reading_with : Option Text → Reading
-  reading_with id = record { rank = rank_in p u; lost = lost_place no_widening; id = id; columns = λ x. column_dummies (called_in p u x) }
+  reading_with id = record { rank = rank_in p u; lost = lost_place no_widening; id = id; columns = λ x. written_callee p (called_in p u x) }
 
   same_decls : map (narrow no_widening) (filter (λ d. was_there u no_widening d.name) (regrouped u).decls) ≡ grouped u u.decls
   same_decls =
       ap (λ b. map (narrow no_widening) (filter (λ d. not (is_text None d.name) && not (is_text (id_if b []) d.name)) (regrouped u).decls)) e
       ∙ map-id (filter (λ d. true) (regrouped u).decls) ∙ all_kept (regrouped u).decls ∙ written_is u e
 
-  erased : erased_unit p u no_widening (regrouped u) ≡ bare_unit p u
-  erased =
+  -- calls in the source and in what is written are read as the same, since none is of a column unit
+  same_body : IsPlain p u → read_stmts (reading_with None) u.body ≡ read_stmts (bare_reading p u) u.body
+  same_body h =
+      stmts_same (rank_in p u) (lost_place no_widening) None (λ x. written_callee p (called_in p u x)) (λ x. source_callee (called_in p u x))
+          (λ x. runs_column p u x ≡ false) (λ x. runs_column p u x ≡ false)
+          (λ x k. let none : is_column_called (called_in p u x) ≡ false = (both_false (is_column_called (called_in p u x)) (is_column_called (unit_run p (visible p u x))) k).0 in
+              (no_callee (λ v. is_some (added_dummy p v)) (called_in p u x) none, no_callee (λ v. false) (called_in p u x) none))
+          u.body h.undirected.1 h.calls
+
+  erased : IsPlain p u → erased_unit p u no_widening (regrouped u) ≡ bare_unit p u
+  erased h =
       ap₂ (λ dummies decls. read_as u dummies decls (read_stmts (erased_reading p u no_widening) (behind_guard (is_column_unit u) u.body))) (all_kept u.dummies) same_decls
-      ∙ ap (λ b. read_as u u.dummies (grouped u u.decls) (read_stmts (reading_with (id_if b [])) (behind_guard b u.body))) e
+      ∙ (ap (λ b. read_as u u.dummies (grouped u u.decls) (read_stmts (reading_with (id_if b [])) (behind_guard b u.body))) e
+      ∙ ap (read_as u u.dummies (grouped u u.decls)) (same_body h))
 
 -- what a plain unit's place in the target is
 pub record Written (p : Program) (u t : Unit) : Type 0 where
@@ -190,7 +208,7 @@ pub record Written (p : Program) (u t : Unit) : Type 0 where
 row_written : (p : Program) (u t : Unit) → Row p u t → is_column_unit u ≡ false → Written p u t
 row_written p _ _ (plain_row {u} e h) k = record {
   interface_of = λ wide. subst (UnitInterface p u (regrouped u)) (sym (no_widening_is p u e wide)) (interface p u e);
-  erased_of = λ wide. ap (λ w. erased_unit p u w (regrouped u)) (no_widening_is p u e wide) ∙ erased p u e;
+  erased_of = λ wide. ap (λ w. erased_unit p u w (regrouped u)) (no_widening_is p u e wide) ∙ erased p u e h;
   unmarked_of = all_unmarked u.body h.undirected.1;
   routine_of = refl;
 }

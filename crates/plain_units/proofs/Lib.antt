@@ -1,5 +1,6 @@
 pub mod Alike
 pub mod Parts
+pub mod Readings
 pub mod Trees
 pub mod Declared
 pub mod Seeing

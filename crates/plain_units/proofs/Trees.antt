@@ -1,7 +1,7 @@
 -- Two scenes in which names mean the same and callees are alike: expressions and statements without directives have alike
 -- courses in both.
-use Rattle.std.proofs.Common.{◌≡◌, ℕ, ℤ, pos, ◌+ℤ◌, refl, List, [], ◌∷◌, Bool, true, false, Option, Some, None}
-use Rattle.std.specs.Prelude.{◌&&◌, is_none}
+use Rattle.std.proofs.Common.{◌≡◌, ℕ, ℤ, pos, ◌+ℤ◌, refl, sym, List, [], ◌∷◌, Bool, true, false, Option, Some, None}
+use Rattle.std.specs.Prelude.{◌&&◌, ◌||◌, is_none}
 use Rattle.std.specs.List.{list_any}
 use Rattle.std.proofs.lemmas.Bool.{false≢true}
 use Rattle.fort_arith.specs.declared.kind.Kind.{Kind}
@@ -23,6 +23,10 @@ use Rattle.plain_units.proofs.Parts.{AlikeCallees, callees, if_alike, with_whole
 pub both : (a b : Bool) → a && b ≡ true → (a ≡ true) × (b ≡ true)
 both true b h = (refl, h)
 both false b h = absurd (false≢true h)
+
+pub both_false : (a b : Bool) → a || b ≡ false → (a ≡ false) × (b ≡ false)
+both_false false b h = (refl, h)
+both_false true b h = absurd (false≢true (sym h))
 
 module _ (m : Text → Meant) (f f' : Text → Callee) (IsSo : Text → Type 0)
     (alike_callees : (x unit : Text) (kind : Kind) → IsSo x → m x ≡ Called unit kind → AlikeCallees (f unit) (f' unit)) where

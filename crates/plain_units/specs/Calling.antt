@@ -1,10 +1,10 @@
 -- What statements call: the names in their CALLs, and those that they refer to with parentheses, but for the intrinsic
 -- functions.
-use Rattle.std.specs.Prelude.{◌≡◌, Option, Some, None, Bool, false, ⊤}
+use Rattle.std.specs.Prelude.{◌≡◌, Option, Some, None, Bool, false, ◌||◌, ⊤}
 use Rattle.fort_tree.specs.Intrinsic.{intrinsic_named}
 use Rattle.claw_meaning.specs.Syntax.{Text, Expr, Numeral, Boolean, Name, Reference, Signed, Binary, Paren, Subscripts, No_more, At, Section, Between, Limit, Unbounded, Bounded, Head, Stmt, Assign, Call, If, Select, Do, Block, Piece, Exit, Cycle, Return, Stmts, Done, Then, Arms, No_arm, Arm, Cases, No_case, Case, Otherwise, Nothing_else, Else, Unit, Program}
 use Rattle.claw_meaning.specs.Scope.{Entity, Procedure, visible, unit_named}
-use Rattle.claw_meaning.specs.Dependence.{is_column_called}
+use Rattle.claw_meaning.specs.Dependence.{called_in, is_column_called}
 
 -- each name that is referred to with parentheses is so
 module _ (IsSo : Text → Type 0) where
@@ -71,8 +71,9 @@ abbrev pub unit_run : Program → Entity → Option Unit
 unit_run p (Procedure v) = unit_named p v.name
 unit_run p other = None
 
+-- the unit that is visible under the name is a column unit, or the one that a run finds
 abbrev pub runs_column : Program → Unit → Text → Bool
-runs_column p u x = is_column_called (unit_run p (visible p u x))
+runs_column p u x = is_column_called (called_in p u x) || is_column_called (unit_run p (visible p u x))
 
 -- the unit calls no column unit
 abbrev pub CallsPlain : Program → Unit → Type 0

@@ -8,7 +8,7 @@ use Rattle.fort_tree.specs.declared.stmt.Named.{Named}
 use Rattle.fort_tree.specs.Intrinsic.{intrinsic_named}
 use Rattle.claw_meaning.specs.Syntax.{Text, Unit, Program}
 use Rattle.claw_meaning.specs.Scope.{Entity, Unknown, Variable, Constant, Procedure, visible, unit_named}
-use Rattle.claw_meaning.specs.Dependence.{is_column_called}
+use Rattle.claw_meaning.specs.Dependence.{unit_called, is_column_called}
 use Rattle.claw_meaning.specs.Units.{is_column_unit}
 use Rattle.plain_units.specs.Calling.{unit_run, runs_column, CallsPlain}
 use Rattle.column_scalars.proofs.MemberCases.{names_equal}
@@ -34,6 +34,10 @@ never : (b : Bool) → (b ≡ true → ⊥) → b ≡ false
 never true h = absurd (h refl)
 never false h = refl
 
+twice : (b : Bool) → b || b ≡ b
+twice true = refl
+twice false = refl
+
 -- a unit is found by its name, and a column unit has a name of those and no result
 pub record Known (p : Program) (is_named : Text → Bool) (v : Unit) : Type 0 where
   pub found : unit_named p v.name ≡ Some v
@@ -42,7 +46,7 @@ pub record Known (p : Program) (is_named : Text → Bool) (v : Unit) : Type 0 wh
 
 module _ (p : Program) (is_named : Text → Bool) (all : Each p.units (Known p is_named)) where
   abbrev runs : Entity → Bool
-  runs e = is_column_called (unit_run p e)
+  runs e = is_column_called (unit_called e) || is_column_called (unit_run p e)
 
   abbrev Seen : Text → Entity → Type 0
   Seen = Sees p (Known p is_named) all
@@ -51,7 +55,7 @@ module _ (p : Program) (is_named : Text → Bool) (all : Each p.units (Known p i
   same_name x v e = names_equal v.name x e
 
   runs_itself : (v : Unit) → Known p is_named v → runs (Procedure v) ≡ is_column_unit v
-  runs_itself v known = ap is_column_called known.found
+  runs_itself v known = ap (λ o. is_column_unit v || is_column_called o) known.found ∙ twice (is_column_unit v)
 
   call_runs : (x : Text) → is_named x ≡ false → (e : Entity) → Seen x e → runs e ≡ false
   call_runs x off Unknown s = refl
