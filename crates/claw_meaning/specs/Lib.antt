@@ -18,4 +18,6 @@ pub mod Erasure
 pub mod Spread
 pub mod SmallUnits
 pub mod SmallRuns
+pub mod ColumnUnits
+pub mod ColumnRuns
 pub mod Laws

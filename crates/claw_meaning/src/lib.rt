@@ -11,4 +11,4 @@ mod tests;
 pub use laws::{
     frames_are_stores, orderly_runs_agree, runs_are_apart, runs_are_local, runs_can_move,
 };
-pub use rows::{lost_update, scalars_in_columns, small_runs};
+pub use rows::{columns_of_small_units, lost_update, scalars_in_columns, small_runs};

@@ -3,7 +3,7 @@
 use crate::laws::{
     frames_are_stores, orderly_runs_agree, runs_are_apart, runs_are_local, runs_can_move,
 };
-use crate::rows::{lost_update, scalars_in_columns, small_runs};
+use crate::rows::{columns_of_small_units, lost_update, scalars_in_columns, small_runs};
 
 #[test]
 fn laws_are_called(rt: HostRuntime) {
@@ -15,4 +15,5 @@ fn laws_are_called(rt: HostRuntime) {
     scalars_in_columns();
     lost_update();
     small_runs();
+    columns_of_small_units();
 }
