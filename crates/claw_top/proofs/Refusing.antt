@@ -20,7 +20,7 @@ use Rattle.fort_units.specs.declared.item.Item.{Item}
 use Rattle.fort_units.specs.Program.{HasLines, no_line, a_line, mode_of, IsProgram}
 use Rattle.fort_units.specs.Places.{LineInFiles}
 use Rattle.scalar_units.specs.Unbuilt.{is_earlier, IsFirst}
-use Rattle.translated_programs.specs.NotBuilt.{names_column_unit, names_external_unit, of_any_unit, unbuilt}
+use Rattle.translated_programs.specs.NotBuilt.{names_column_unit, is_global, of_any_unit, unbuilt}
 use Rattle.claw_top.specs.Sources.{AreBefore, begins_after, begins_at}
 
 begun-within : (count : ℕ) (at begin : Place) (lines : List Line) → begin.file < count → AreBefore count lines → (begins_after at begin lines).file < count
@@ -68,7 +68,7 @@ empty_built : (file : File) → IsProgram [] file → unbuilt file ≡ []
 empty_built file h =
     let forms = no_forms [] h.judged.items h.judged.own h.judged.forms refl h.judged.are in
     let parts = nothing_nests (mode_of []) h.judged.forms file.modules file.units file.order forms h.nests in
-    ap (λ (us : List tree.Unit). flat_map (of_any_unit (names_column_unit file) (names_external_unit file)) us) parts.1
+    ap (λ (us : List tree.Unit). flat_map (of_any_unit (names_column_unit file) (is_global file)) us) parts.1
 
 -- what is not yet built stands in one of the files
 pub unbuilt-within : (count : ℕ) (lines : List Line) (file : File) (at : Place) → AreBefore count lines → IsProgram lines file → IsFirst at (unbuilt file) → (begins_at at lines).file < count

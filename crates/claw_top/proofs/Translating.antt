@@ -78,6 +78,7 @@ is_translation laws sources lines file made are spelled sound built is =
       wide = wide_in (plain_file file);
       spelled = record { lines = lines; are = are; spelled = spelled };
       sound = sound;
+      built = built;
       layout = refl;
       interface = laws.interface file (plain_file made) sound built is;
       erased = laws.erased file (plain_file made) sound built is;

@@ -60,6 +60,7 @@ fn is_translated(rt: &HostRuntime, source: &str, text: &[u8]) -> Result<bool, Al
 fn translates_other_units(rt: HostRuntime) -> Result<(), Fail> {
     let both = format!(in rt.alloc(); "{PHYSICS}{SOURCE}")?;
     let written = format!(in rt.alloc(); "{WRITTEN_PHYSICS}{TRANSLATED}")?;
+    assert!(rt; is_translated(&rt, "", b"".as_slice())?);
     assert!(rt; is_translated(&rt, PHYSICS, WRITTEN_PHYSICS.as_bytes())?);
     assert!(rt; is_translated(&rt, both.as_str(), written.as_bytes())?);
     assert!(rt;

@@ -131,6 +131,30 @@ fn one_source(rt: HostRuntime) {
             5,
         ),
         ("subroutine s(a)\na = #\n", 2),
+        (
+            "subroutine s(a,b)\ninteger, intent(out) :: a, b\n!$claw define dimension c(1:n) parallelize data(a)\nend subroutine",
+            3,
+        ),
+        (
+            "subroutine s(a)\ninteger, intent(out) :: a\n!$claw define dimension a(1:n) parallelize data(a)\nend subroutine",
+            3,
+        ),
+        (
+            "subroutine s(a)\ninteger, intent(out) :: a\n!$claw define dimension c(1:a) parallelize data(a)\nend subroutine",
+            3,
+        ),
+        (
+            "subroutine s(a)\ninteger, intent(out) :: a\n!$claw define dimension c(1:s) parallelize data(a)\nend subroutine",
+            3,
+        ),
+        (
+            "module n\nend module\nsubroutine s(a)\ninteger, intent(out) :: a\n!$claw define dimension c(1:n) parallelize data(a)\nend subroutine",
+            5,
+        ),
+        (
+            "module c\nend module\nsubroutine s(a)\ninteger, intent(out) :: a\n!$claw define dimension c(1:n) parallelize data(a)\nend subroutine",
+            5,
+        ),
     ];
 
     for (text, line) in cases {
@@ -138,6 +162,14 @@ fn one_source(rt: HostRuntime) {
         assert_eq!(rt; fault.map_or(0, |fault| fault.place.line), line, "{text}");
     }
 }
+
+// Units with one fault each: of names, of calls, and of kinds.
+const NAMES: &str = "subroutine a\nx = 1\nend subroutine\n";
+const OTHER_NAMES: &str = "subroutine b\ny = 1\nend subroutine\n";
+const CALLS: &str = "subroutine c\ncall c\nend subroutine\n";
+const OTHER_CALLS: &str = "subroutine d\ncall d\nend subroutine\n";
+const KINDS: &str = "subroutine e\nlogical :: x\nx = 1\nend subroutine\n";
+const OTHER_KINDS: &str = "subroutine f\nlogical :: x\nx = 1\nend subroutine\n";
 
 // Two sources, and the code, the file and the line of their fault.
 #[test]
@@ -154,6 +186,14 @@ fn two_sources(rt: HostRuntime) {
         ("subroutine s(a)\n", "", Code::E11, 0, 1),
         ("module m\n", "a = #\n", Code::E03, 1, 1),
         ("a = #\n", "#\n", Code::E03, 0, 1),
+        // a fault of names in the second file comes before one of calls or of kinds in the first, and so on
+        (KINDS, NAMES, Code::E30, 1, 2),
+        (KINDS, CALLS, Code::E36, 1, 2),
+        (CALLS, NAMES, Code::E30, 1, 2),
+        // of one phase the first file's
+        (NAMES, OTHER_NAMES, Code::E30, 0, 2),
+        (CALLS, OTHER_CALLS, Code::E36, 0, 2),
+        (KINDS, OTHER_KINDS, Code::E32, 0, 3),
     ];
 
     for (first, second, code, file, line) in cases {

@@ -1,5 +1,5 @@
 -- What the units are of a program of which nothing is unbuilt.
-use Rattle.std.proofs.Common.{◌≡◌, ℕ, List, [], ◌∷◌, map, Bool, true, false, cond, ◌&&◌, ◌||◌, not, Option, Some, None, refl, sym, ap, ◌∙◌, subst}
+use Rattle.std.proofs.Common.{◌≡◌, ℕ, List, [], ◌∷◌, ◌++◌, map, Bool, true, false, cond, ◌&&◌, ◌||◌, not, Option, Some, None, refl, sym, ap, ◌∙◌, subst}
 use Rattle.std.specs.Prelude.{is_none}
 use Rattle.std.specs.List.{filter, find, list_any, list_all}
 use Rattle.std.specs.Str.{bytes_eq}
@@ -21,7 +21,7 @@ use Rattle.sound_programs.specs.Laws.{Each}
 use Rattle.sound_programs.specs.Placing.{placed_stmts}
 use Rattle.sound_programs.proofs.SoundLaws.{left_empty, right_empty, map_empty}
 use Rattle.translated_programs.specs.Directed.{directed_in}
-use Rattle.translated_programs.specs.NotBuilt.{is_column, is_external, names_of, names_column_unit, names_external_unit, is_new_bound, are_new, of_names, of_column_unit, of_plain_unit, of_any_unit, unbuilt}
+use Rattle.translated_programs.specs.NotBuilt.{is_column, is_external, names_of, names_column_unit, is_global, is_new_bound, are_new, of_names, of_column_unit, of_plain_unit, of_any_unit, unbuilt}
 use Rattle.translated_programs.specs.Translated.{HasItsDimension}
 use Rattle.translated_programs.specs.UnitLaws.{BuiltLaw}
 use Rattle.translated_programs.proofs.Lists.{each_by, each_empty}
@@ -79,8 +79,12 @@ none_found : (us : List tree.Unit) (x : Text) → list_any (bytes_eq x) (names_o
 none_found [] x e = refl
 none_found (v ∷ us) x e = one_less v.host v x (filter is_external us) (plain_unit v) (find (λ u. same_host u.host None && bytes_eq u.name x) (map plain_unit us)) (none_found us x) e
 
-pub not_within : (file : File) (x : Text) → names_external_unit file x ≡ false → unit_within (plain_file file) None x ≡ None
-not_within file x e = none_found file.units x e
+no_later : (x : Text) (xs ys : List Text) → list_any (bytes_eq x) (xs ++ ys) ≡ false → list_any (bytes_eq x) ys ≡ false
+no_later x [] ys e = e
+no_later x (y ∷ xs) ys e = no_later x xs ys (or_false (bytes_eq x y) (list_any (bytes_eq x) (xs ++ ys)) e).1
+
+pub not_within : (file : File) (x : Text) → is_global file x ≡ false → unit_within (plain_file file) None x ≡ None
+not_within file x e = none_found file.units x (no_later x (map (λ m. m.name) file.modules) (names_of (filter is_external file.units)) e)
 
 -- ---- Units
 
@@ -106,15 +110,15 @@ pub record PlainUnit (file : File) (u : tree.Unit) : Type 0 where
   pub undirected : directed_in (names_column_unit file) (placed_stmts u.body) ≡ []
 
 abbrev pub OfAny : File → tree.Unit → Type 0
-OfAny file u = of_any_unit (names_column_unit file) (names_external_unit file) u ≡ []
+OfAny file u = of_any_unit (names_column_unit file) (is_global file) u ≡ []
 
-column_part : (file : File) (u : tree.Unit) → is_column_unit (plain_unit u) ≡ true → OfAny file u → of_column_unit (names_external_unit file) u ≡ []
+column_part : (file : File) (u : tree.Unit) → is_column_unit (plain_unit u) ≡ true → OfAny file u → of_column_unit (is_global file) u ≡ []
 unfolding of_any_unit is_column
-column_part file u is e = subst (λ b. cond b (of_column_unit (names_external_unit file) u) (of_plain_unit (names_column_unit file) u) ≡ []) is e
+column_part file u is e = subst (λ b. cond b (of_column_unit (is_global file) u) (of_plain_unit (names_column_unit file) u) ≡ []) is e
 
 plain_part : (file : File) (u : tree.Unit) → is_column_unit (plain_unit u) ≡ false → OfAny file u → of_plain_unit (names_column_unit file) u ≡ []
 unfolding of_any_unit is_column
-plain_part file u is e = subst (λ b. cond b (of_column_unit (names_external_unit file) u) (of_plain_unit (names_column_unit file) u) ≡ []) is e
+plain_part file u is e = subst (λ b. cond b (of_column_unit (is_global file) u) (of_plain_unit (names_column_unit file) u) ≡ []) is e
 
 pub column_unit : BuiltLaw → (file : File) (u : tree.Unit) → OfAny file u → is_column_unit (plain_unit u) ≡ true → ColumnUnit file u
 column_unit law file u e is =
@@ -125,7 +129,7 @@ column_unit law file u e is =
       is = built.0.is;
       plain = built.0.plain;
       dimension = built.1;
-      upper = not_within file s.upper (new_upper (names_external_unit file) s u.marks (ap (λ (v : plain.Unit). v.marks) built.0.plain) (right_empty (of_unit u) (of_names (names_external_unit file) u.marks) all));
+      upper = not_within file s.upper (new_upper (is_global file) s u.marks (ap (λ (v : plain.Unit). v.marks) built.0.plain) (right_empty (of_unit u) (of_names (is_global file) u.marks) all));
     }
 
 pub plain_of : (file : File) (u : tree.Unit) → OfAny file u → is_column_unit (plain_unit u) ≡ false → PlainUnit file u
@@ -136,7 +140,7 @@ plain_of file u e is =
     }
 
 pub all_built : (file : File) → unbuilt file ≡ [] → Each file.units (OfAny file)
-all_built file e = each_empty (of_any_unit (names_column_unit file) (names_external_unit file)) file.units e
+all_built file e = each_empty (of_any_unit (names_column_unit file) (is_global file)) file.units e
 
 pub dimensions : BuiltLaw → (file : File) → unbuilt file ≡ [] → Each file.units HasItsDimension
 dimensions law file e = each_by file.units (λ u of is. (column_unit law file u of is).dimension) (all_built file e)

@@ -28,17 +28,20 @@ names_of us = map (λ u. u.name) us
 abbrev pub names_column_unit : File → Text → Bool
 names_column_unit file x = list_any (bytes_eq x) (names_of (filter is_column file.units))
 
--- the name is that of an external unit
-abbrev pub names_external_unit : File → Text → Bool
-names_external_unit file x = list_any (bytes_eq x) (names_of (filter is_external file.units))
+-- the names of modules and of external units
+abbrev pub global_names : File → List Text
+global_names file = map (λ m. m.name) file.modules ++ names_of (filter is_external file.units)
 
--- where this tells the names of external units
+abbrev pub is_global : File → Text → Bool
+is_global file x = list_any (bytes_eq x) (global_names file)
+
+-- where this tells the names of modules and external units
 module _ (is_taken : Text → Bool) where
   abbrev pub is_new_bound : Option Expr → Bool
   is_new_bound (Some (Name x)) = not (is_taken x)
   is_new_bound other = true
 
-  -- the names that `define` gives to the dimension and its upper bound are those of no external unit
+  -- the names that `define` gives to the dimension and its upper bound are those of no module and no external unit
   abbrev pub are_new : Directive → Bool
   are_new d = list_all (λ x. not (is_taken x)) d.names && is_new_bound (plain_option d.upper)
 
@@ -58,4 +61,4 @@ of_any_unit is_column_name is_taken u = if is_column u then of_column_unit is_ta
 
 -- The places of a program that keep it from being translated.
 abbrev pub unbuilt : File → List Place
-unbuilt file = flat_map (of_any_unit (names_column_unit file) (names_external_unit file)) file.units
+unbuilt file = flat_map (of_any_unit (names_column_unit file) (is_global file)) file.units

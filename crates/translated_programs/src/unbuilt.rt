@@ -16,33 +16,33 @@ use fort_tree::{Directive, Expr, File, Name, NoMemory, Place, Unit};
 use scalar_units::{note, note_unit, note_unless};
 use std::alloc::Global;
 
-fn are_free(externals: &NameSet, names: &[Name]) -> bool
-    ensures { result ≡ list_all (λ x. not (has externals.now x)) names.now }
+fn are_free(globals: &NameSet, names: &[Name]) -> bool
+    ensures { result ≡ list_all (λ x. not (has globals.now x)) names.now }
 {
-    names.iter().all(|name| !externals.has(name))
+    names.iter().all(|name| !globals.has(name))
 }
 
-fn is_new_bound(externals: &NameSet, bound: &Option<Expr>) -> bool
-    ensures { result ≡ new_bound_test (has externals.now) (plain_option bound.now) }
+fn is_new_bound(globals: &NameSet, bound: &Option<Expr>) -> bool
+    ensures { result ≡ new_bound_test (has globals.now) (plain_option bound.now) }
 {
     match bound {
-        Some(Expr::Ref(name, None, _)) => !externals.has(name),
+        Some(Expr::Ref(name, None, _)) => !globals.has(name),
         _ => true,
     }
 }
 
-fn are_new(externals: &NameSet, define: &Directive) -> bool
-    ensures { result ≡ new_test (has externals.now) define.now }
+fn are_new(globals: &NameSet, define: &Directive) -> bool
+    ensures { result ≡ new_test (has globals.now) define.now }
 {
-    are_free(externals, define.names.items()) && is_new_bound(externals, &define.upper)
+    are_free(globals, define.names.items()) && is_new_bound(globals, &define.upper)
 }
 
-fn note_names(least: Option<Place>, externals: &NameSet, marks: &[Directive]) -> Option<Place>
-    ensures { result ≡ noted (of_names (has externals.now) marks.now) least }
+fn note_names(least: Option<Place>, globals: &NameSet, marks: &[Directive]) -> Option<Place>
+    ensures { result ≡ noted (of_names (has globals.now) marks.now) least }
 {
     match marks {
         [] => least,
-        [define, ..] => note_unless(least, are_new(externals, define), define.at),
+        [define, ..] => note_unless(least, are_new(globals, define), define.at),
     }
 }
 
@@ -58,10 +58,10 @@ fn note_marks(least: Option<Place>, marks: &[Directive]) -> Option<Place>
 
 #[tactic(auto, using(scalar_units::proofs::Firsts::two_parts))]
 fn note_column_unit(least: Option<Place>, names: &UnitNames, unit: &Unit) -> Option<Place>
-    ensures { result ≡ noted (of_column_unit (has names.now.externals) unit.now) least }
+    ensures { result ≡ noted (of_column_unit (has names.now.globals) unit.now) least }
 {
     let least = note_unit(least, unit);
-    note_names(least, &names.externals, unit.marks.items())
+    note_names(least, &names.globals, unit.marks.items())
 }
 
 fn note_places(least: Option<Place>, places: &[Place]) -> Option<Place>
@@ -103,7 +103,7 @@ fn note_any_unit(
     names: &UnitNames,
     unit: &Unit,
 ) -> Result<Option<Place>, NoMemory>
-    ensures { IfOk result (λ first. first ≡ noted (of_any_unit (has names.now.columns) (has names.now.externals) unit.now) least) }
+    ensures { IfOk result (λ first. first ≡ noted (of_any_unit (has names.now.columns) (has names.now.globals) unit.now) least) }
 {
     if is_column_unit(unit) {
         Ok(note_column_unit(least, names, unit))
@@ -119,7 +119,7 @@ fn note_units(
     names: &UnitNames,
     units: &[Unit],
 ) -> Result<Option<Place>, NoMemory>
-    ensures { IfOk result (λ first. first ≡ noted (flat_map (of_any_unit (has names.now.columns) (has names.now.externals)) units.now) least) }
+    ensures { IfOk result (λ first. first ≡ noted (flat_map (of_any_unit (has names.now.columns) (has names.now.globals)) units.now) least) }
 {
     let mut least = least;
     for unit in units {
@@ -129,8 +129,8 @@ fn note_units(
 }
 
 /// The first place that keeps a program from being translated, or `None` exactly where nothing does. It is
-/// - in a column unit, a place that keeps it from being one of column scalars (`scalar_units::note_unit`), or the sentinel of `define` where an external unit
-///   has the name of its dimension or of its upper bound;
+/// - in a column unit, a place that keeps it from being one of column scalars (`scalar_units::note_unit`), or the sentinel of `define` where a module or an external
+///   unit has the name of its dimension or of its upper bound;
 /// - in another unit, the sentinel of a directive before a loop or of a block, and the first token of a CALL under `parallelize forward` or of a column unit.
 ///
 /// # Errors

@@ -7,5 +7,5 @@ use Rattle.translated_programs.proofs.unbuilt.note_units.Given as goal
 
 abbrev pub invariant-loop-unit : goal.invariant-loop-unit
 invariant-loop-unit l =
-    noted (flat_map (of_any_unit (has l.names.columns) (has l.names.externals)) (drop l.unit-index l.units)) l.least
-    ≡ noted (flat_map (of_any_unit (has l.names.columns) (has l.names.externals)) l.fn.units) l.fn.least
+    noted (flat_map (of_any_unit (has l.names.columns) (has l.names.globals)) (drop l.unit-index l.units)) l.least
+    ≡ noted (flat_map (of_any_unit (has l.names.columns) (has l.names.globals)) l.fn.units) l.fn.least
