@@ -98,6 +98,20 @@ undeclared_result = record { modules = []; units = (function (codes "f") (place 
 abbrev pub constant_in_private : Program
 constant_in_private = record { modules = []; units = (subroutine (codes "s") (place 1 12) (named (codes "q") (place 1 14) ∷ []) [] (declaration (codes "n") (place 2 25) I4 None [] (Some (Numeral 3 None (place 2 29))) ∷ declaration (codes "q") (place 3 29) I4 (Some InOut) (record { lower = None; upper = (Some (Name (codes "n") (place 3 31))) } ∷ []) None ∷ local (codes "k") (place 4 14) ∷ []) (Do (place 6 3) (record { variable = codes "k"; at = (place 6 6); from = Numeral 1 None (place 6 10); to = Name (codes "n") (place 6 13); step = None }) (statements (Assign (place 7 5) (Reference (codes "q") (One (Name (codes "k") (place 7 7)) No_more) (place 7 5)) (Numeral 1 None (place 7 12)) ∷ [])) (Some (parallel_do (place 5 3) (codes "n" ∷ []))) ∷ []) ∷ []); order = (item.Unit 0 ∷ []) }
 
+-- a variable in a mark's private list
+--
+--     subroutine s(q)
+--       integer, parameter :: n = 3
+--       integer, intent(inout) :: q(n)
+--       integer :: k
+--       !$omp parallel do private(k)
+--       do k = 1, n
+--         q(k) = 1
+--       end do
+--     end subroutine s
+abbrev pub variable_in_private : Program
+variable_in_private = record { modules = []; units = (subroutine (codes "s") (place 1 12) (named (codes "q") (place 1 14) ∷ []) [] (declaration (codes "n") (place 2 25) I4 None [] (Some (Numeral 3 None (place 2 29))) ∷ declaration (codes "q") (place 3 29) I4 (Some InOut) (record { lower = None; upper = (Some (Name (codes "n") (place 3 31))) } ∷ []) None ∷ local (codes "k") (place 4 14) ∷ []) (Do (place 6 3) (record { variable = codes "k"; at = (place 6 6); from = Numeral 1 None (place 6 10); to = Name (codes "n") (place 6 13); step = None }) (statements (Assign (place 7 5) (Reference (codes "q") (One (Name (codes "k") (place 7 7)) No_more) (place 7 5)) (Numeral 1 None (place 7 12)) ∷ [])) (Some (parallel_do (place 5 3) (codes "k" ∷ []))) ∷ []) ∷ []); order = (item.Unit 0 ∷ []) }
+
 -- a variable of the host module is visible
 --
 --     module m
@@ -577,6 +591,7 @@ pub record NameRows : Type 0 where
   pub undeclared_dummy_is_found : HasOnly Source undeclared_dummy E30 (place 1 17)
   pub undeclared_result_is_found : HasOnly Source undeclared_result E30 (place 1 10)
   pub constant_in_private_is_found : HasOnly Target constant_in_private E30 (place 5 3)
+  pub variable_in_private_is_sound : HasNone Target variable_in_private
   pub variable_of_host_is_sound : HasNone Source variable_of_host
   pub used_through_two_is_sound : HasNone Source used_through_two
   pub not_in_only_is_found : HasOnly Source not_in_only E30 (place 8 7)

@@ -201,14 +201,23 @@ size_of_second = record { modules = []; units = (subroutine (codes "s") (place 1
 abbrev pub rank_4 : Program
 rank_4 = record { modules = []; units = (subroutine (codes "s") (place 1 12) (named (codes "q") (place 1 14) ∷ []) [] (declaration (codes "q") (place 2 29) I4 (Some InOut) (record { lower = None; upper = (Some (Numeral 1 None (place 2 31))) } ∷ record { lower = None; upper = (Some (Numeral 1 None (place 2 33))) } ∷ record { lower = None; upper = (Some (Numeral 1 None (place 2 35))) } ∷ record { lower = None; upper = (Some (Numeral 1 None (place 2 37))) } ∷ []) None ∷ []) (Assign (place 3 3) (Reference (codes "q") (One (Numeral 1 None (place 3 5)) (One (Numeral 1 None (place 3 7)) (One (Numeral 1 None (place 3 9)) (One (Numeral 1 None (place 3 11)) No_more)))) (place 3 3)) (Numeral 1 None (place 3 16)) ∷ []) ∷ []); order = (item.Unit 0 ∷ []) }
 
--- and below a target text's
+-- and just at a target text's
 --
 --     subroutine s(q)
---       integer, intent(inout) :: q(1,1,1,1)
---       q(1,1,1,1) = 1
+--       integer, intent(inout) :: q(1,1,1,1,1)
+--       q(1,1,1,1,1) = 1
 --     end subroutine s
-abbrev pub rank_4_in_target : Program
-rank_4_in_target = record { modules = []; units = (subroutine (codes "s") (place 1 12) (named (codes "q") (place 1 14) ∷ []) [] (declaration (codes "q") (place 2 29) I4 (Some InOut) (record { lower = None; upper = (Some (Numeral 1 None (place 2 31))) } ∷ record { lower = None; upper = (Some (Numeral 1 None (place 2 33))) } ∷ record { lower = None; upper = (Some (Numeral 1 None (place 2 35))) } ∷ record { lower = None; upper = (Some (Numeral 1 None (place 2 37))) } ∷ []) None ∷ []) (Assign (place 3 3) (Reference (codes "q") (One (Numeral 1 None (place 3 5)) (One (Numeral 1 None (place 3 7)) (One (Numeral 1 None (place 3 9)) (One (Numeral 1 None (place 3 11)) No_more)))) (place 3 3)) (Numeral 1 None (place 3 16)) ∷ []) ∷ []); order = (item.Unit 0 ∷ []) }
+abbrev pub rank_5_in_target : Program
+rank_5_in_target = record { modules = []; units = (subroutine (codes "s") (place 1 12) (named (codes "q") (place 1 14) ∷ []) [] (declaration (codes "q") (place 2 29) I4 (Some InOut) (record { lower = None; upper = (Some (Numeral 1 None (place 2 31))) } ∷ record { lower = None; upper = (Some (Numeral 1 None (place 2 33))) } ∷ record { lower = None; upper = (Some (Numeral 1 None (place 2 35))) } ∷ record { lower = None; upper = (Some (Numeral 1 None (place 2 37))) } ∷ record { lower = None; upper = (Some (Numeral 1 None (place 2 39))) } ∷ []) None ∷ []) (Assign (place 3 3) (Reference (codes "q") (One (Numeral 1 None (place 3 5)) (One (Numeral 1 None (place 3 7)) (One (Numeral 1 None (place 3 9)) (One (Numeral 1 None (place 3 11)) (One (Numeral 1 None (place 3 13)) No_more))))) (place 3 3)) (Numeral 1 None (place 3 18)) ∷ []) ∷ []); order = (item.Unit 0 ∷ []) }
+
+-- and past that
+--
+--     subroutine s(q)
+--       integer, intent(inout) :: q(1,1,1,1,1,1)
+--       q(1,1,1,1,1,1) = 1
+--     end subroutine s
+abbrev pub rank_6_in_target : Program
+rank_6_in_target = record { modules = []; units = (subroutine (codes "s") (place 1 12) (named (codes "q") (place 1 14) ∷ []) [] (declaration (codes "q") (place 2 29) I4 (Some InOut) (record { lower = None; upper = (Some (Numeral 1 None (place 2 31))) } ∷ record { lower = None; upper = (Some (Numeral 1 None (place 2 33))) } ∷ record { lower = None; upper = (Some (Numeral 1 None (place 2 35))) } ∷ record { lower = None; upper = (Some (Numeral 1 None (place 2 37))) } ∷ record { lower = None; upper = (Some (Numeral 1 None (place 2 39))) } ∷ record { lower = None; upper = (Some (Numeral 1 None (place 2 41))) } ∷ []) None ∷ []) (Assign (place 3 3) (Reference (codes "q") (One (Numeral 1 None (place 3 5)) (One (Numeral 1 None (place 3 7)) (One (Numeral 1 None (place 3 9)) (One (Numeral 1 None (place 3 11)) (One (Numeral 1 None (place 3 13)) (One (Numeral 1 None (place 3 15)) No_more)))))) (place 3 3)) (Numeral 1 None (place 3 20)) ∷ []) ∷ []); order = (item.Unit 0 ∷ []) }
 
 -- an assumed shape on a local
 --
@@ -314,7 +323,8 @@ pub record RankRows : Type 0 where
   pub size_of_third_is_found : HasOnly Source size_of_third E33 (place 4 7)
   pub size_of_second_is_sound : HasNone Source size_of_second
   pub rank_4_is_found : HasOnly Source rank_4 E33 (place 2 29)
-  pub rank_4_in_target_is_sound : HasNone Target rank_4_in_target
+  pub rank_5_in_target_is_sound : HasNone Target rank_5_in_target
+  pub rank_6_in_target_is_found : HasOnly Target rank_6_in_target E33 (place 2 29)
   pub assumed_local_is_found : HasOnly Source assumed_local E33 (place 2 14)
   pub assumed_beside_explicit_is_found : HasOnly Source assumed_beside_explicit E33 (place 2 29)
   pub array_result_is_found : HasOnly Source array_result E33 (place 3 14)

@@ -15,6 +15,7 @@ returns c = record {
   undeclared_dummy_is_found = refl;
   undeclared_result_is_found = refl;
   constant_in_private_is_found = refl;
+  variable_in_private_is_sound = refl;
   variable_of_host_is_sound = refl;
   used_through_two_is_sound = refl;
   not_in_only_is_found = refl;
