@@ -1,5 +1,5 @@
 -- Where the parser stops, and what it keeps.
-use Rattle.std.proofs.Common.{◌≡◌, ℕ, ◌+◌, ◌<◌, ◌≤◌, Bool, true, false, List, [], ◌∷◌, ◌++◌, take, length, Option, None, Some, option_map, sym, ◌∙◌, ap, subst, inl, inr, append_assoc, below_more, arith}
+use Rattle.std.proofs.Common.{◌≡◌, ℕ, ◌+◌, ◌<◌, ◌≤◌, Bool, true, false, List, [], ◌∷◌, ◌++◌, take, length, Option, None, Some, option_map, refl, sym, ◌∙◌, ap, subst, inl, inr, append_assoc, below_more, arith}
 use Rattle.std.specs.Bool.{Decides}
 use Rattle.std.specs.List.{slice_get}
 use Rattle.std.proofs.lemmas.Bool.{true≢false}
@@ -25,8 +25,8 @@ use Rattle.fort_expr.specs.declared.value.Shape.{Shape}
 use Rattle.fort_expr.specs.declared.value.Value.{Value}
 use Rattle.fort_expr.specs.declared.value.Value.TheVariants.{Operand}
 use Rattle.fort_expr.specs.Expression.{IsExpr}
-use Rattle.fort_expr.specs.Faults.{Begins, Run, Reads, NoExpr, CouldStand, OutsideAt, InsideAt, PastLimit, Clean, Parses, token_limit, depth_limit}
-use Rattle.fort_expr.specs.Machine.{Ahead, Back, Advances, Finishes, Spelled, Finished, Dead, Never, JudgesAt, start}
+use Rattle.fort_expr.specs.Faults.{Begins, Run, Reads, NoExpr, CouldStand, OutsideAt, InsideAt, PastLimit, Unfinished, LimitAt, Clean, Parses}
+use Rattle.fort_expr.specs.Machine.{Ahead, Back, Advances, Finishes, Spelled, Finished, Dead, Never, JudgesPast, start}
 use Rattle.fort_expr.specs.Outside.{Outside, item_of}
 use Rattle.fort_expr.specs.Tracks.{shift_both, apply_both, no_values, one_value}
 use Rattle.fort_expr.specs.Values.{operand}
@@ -139,10 +139,10 @@ outside-at mode tokens i t s v k g ahead back h =
           (subst (λ q. Outside mode (CouldStand (take i tokens)) q behind other) (token-eq x t (sym e ∙ g)) d),
     )
 
-clean-next : (mode : Mode) (tokens : List Token) (i : ℕ) → Clean mode tokens i → InsideAt mode tokens i → (PastLimit mode tokens i → ⊥) → Clean mode tokens (i + 1)
+clean-next : (mode : Mode) (tokens : List Token) (i : ℕ) → Clean mode tokens i → InsideAt mode tokens i → (LimitAt mode tokens i → ⊥) → Clean mode tokens (i + 1)
 clean-next mode tokens i h a b = record {
   inside = below_more (λ j. InsideAt mode tokens j) i h.inside a;
-  limited = below_more (λ j. PastLimit mode tokens j → ⊥) i h.limited b;
+  limited = below_more (λ j. LimitAt mode tokens j → ⊥) i h.limited b;
 }
 
 -- The exits.
@@ -182,37 +182,6 @@ outside-moved-exit mode tokens i t s s1 v v1 p k g e n h a0 =
     let o = outside-at mode tokens i t s v k g h.ahead h.back n in
     (begins-at (take i tokens) s v h.back, h.clean, inl (begins-at (take (i + 1) tokens) s1 v1 (moved-back tokens i t s s1 v v1 p g e h.back a0)), o.0, o.1)
 
-pub long-exit : (mode : Mode) (tokens : List Token) (i : ℕ) (t : Token) (s s1 : List Symbol) (v v1 : Tracked) (p : Step) → slice_get tokens i ≡ Some t → p ≡ step.Moved → Tested mode tokens i t s ≡ None → token_limit mode ≤ i →
-    Kept mode tokens i s v → Advances p t s v s1 v1 → Parses (outcome.PastLimit i) mode tokens
-long-exit mode tokens i t s s1 v v1 p g e n l h a0 =
-    (slice_get_within tokens i t g, begins-at (take (i + 1) tokens) s1 v1 (moved-back tokens i t s s1 v v1 p g e h.back a0), h.clean, inside-at mode tokens i t s v g h.ahead h.back n, inl l)
-
-pub deep-exit : (mode : Mode) (tokens : List Token) (i : ℕ) (t : Token) (s s1 : List Symbol) (v v1 : Tracked) (p : Step) (b : Bool) → slice_get tokens i ≡ Some t → p ≡ step.Moved → Tested mode tokens i t s ≡ None →
-    b ≡ true → JudgesAt b (token_class t) (depth_limit mode) s1 v1.shapes → Kept mode tokens i s v → Advances p t s v s1 v1 → Parses (outcome.PastLimit i) mode tokens
-deep-exit mode tokens i t s s1 v v1 p b g e n l j h a0 =
-    let back = moved-back tokens i t s s1 v v1 p g e h.back a0 in (
-      slice_get_within tokens i t g,
-      begins-at (take (i + 1) tokens) s1 v1 back,
-      h.clean,
-      inside-at mode tokens i t s v g h.ahead h.back n,
-      inr (deep-at mode tokens i t s1 v1 b l g (moved-ahead tokens i t s s1 v v1 p g e h.ahead a0) back j),
-    )
-
-pub next-kept : (mode : Mode) (tokens : List Token) (i : ℕ) (t : Token) (s s1 : List Symbol) (v v1 : Tracked) (p : Step) (b : Bool) → slice_get tokens i ≡ Some t → p ≡ step.Moved → Tested mode tokens i t s ≡ None →
-    (token_limit mode ≤ i → ⊥) → b ≡ false → JudgesAt b (token_class t) (depth_limit mode) s1 v1.shapes → Kept mode tokens i s v → Advances p t s v s1 v1 → Kept mode tokens (i + 1) s1 v1
-next-kept mode tokens i t s s1 v v1 p b g e n l f j h a0 =
-    let ahead = moved-ahead tokens i t s s1 v v1 p g e h.ahead a0 in
-    record {
-      good = (subst (λ q. Advances q t s v s1 v1) e a0).good;
-      ahead = ahead;
-      back = moved-back tokens i t s s1 v v1 p g e h.back a0;
-      clean = clean-next mode tokens i h.clean (inside-at mode tokens i t s v g h.ahead h.back n) (limits ahead);
-    }
-  where
-    limits : Ahead (take (i + 1) tokens) s1 v1 → PastLimit mode tokens i → ⊥
-    limits ahead (inl k) = l k
-    limits ahead (inr k) = not-deep-at mode tokens i t s1 v1 b f g ahead j k
-
 inside-end : (mode : Mode) (tokens : List Token) (n : ℕ) → length tokens ≤ n → InsideAt mode tokens n
 inside-end mode tokens n h k (t, e, d) = let l : n < length tokens = slice_get_within tokens n t e in omega (arith, h, l)
 
@@ -221,6 +190,71 @@ clean-end mode tokens i j h = record {
   inside = λ k l. h.inside k (omega (arith, j, l));
   limited = λ k l. h.limited k (omega (arith, j, l));
 }
+
+past-at : (mode : Mode) (tokens : List Token) (i : ℕ) (t : Token) (s1 : List Symbol) (v1 : Tracked) (b : Bool) → slice_get tokens i ≡ Some t → b ≡ true → JudgesPast b mode i (token_class t) s1 v1.shapes →
+    Ahead (take (i + 1) tokens) s1 v1 → Back (take (i + 1) tokens) s1 v1 → PastLimit mode tokens i
+past-at mode tokens i t s1 v1 b g l j0 ahead back =
+    elim (subst (λ q. JudgesPast q mode i (token_class t) s1 v1.shapes) l j0) [
+      | inl k ↦ inl k
+      | inr j ↦ inr (deep-at mode tokens i t s1 v1 true refl g ahead back j)
+    ]
+
+limit-exit : (mode : Mode) (tokens : List Token) (i : ℕ) (t : Token) (s s1 : List Symbol) (v v1 : Tracked) (p : Step) (b : Bool) → slice_get tokens i ≡ Some t → p ≡ step.Moved → Tested mode tokens i t s ≡ None →
+    b ≡ true → JudgesPast b mode i (token_class t) s1 v1.shapes → (Unfinished tokens i → ⊥) → Kept mode tokens i s v → Advances p t s v s1 v1 → Parses (outcome.PastLimit i) mode tokens
+limit-exit mode tokens i t s s1 v v1 p b g e n l j u h a0 =
+    let back = moved-back tokens i t s s1 v v1 p g e h.back a0 in
+    let ahead = moved-ahead tokens i t s s1 v v1 p g e h.ahead a0 in (
+      slice_get_within tokens i t g,
+      begins-at (take (i + 1) tokens) s1 v1 back,
+      h.clean,
+      inside-at mode tokens i t s v g h.ahead h.back n,
+      (past-at mode tokens i t s1 v1 b g l j ahead back, u),
+    )
+
+-- past a limit, and not the last
+pub inner-limit-exit : (mode : Mode) (tokens : List Token) (i : ℕ) (t : Token) (s s1 : List Symbol) (v v1 : Tracked) (p : Step) (b : Bool) → slice_get tokens i ≡ Some t → p ≡ step.Moved → Tested mode tokens i t s ≡ None →
+    b ≡ true → JudgesPast b mode i (token_class t) s1 v1.shapes → (i + 1 ≡ length tokens → ⊥) → Kept mode tokens i s v → Advances p t s v s1 v1 → Parses (outcome.PastLimit i) mode tokens
+inner-limit-exit mode tokens i t s s1 v v1 p b g e n l j m h a0 = limit-exit mode tokens i t s s1 v v1 p b g e n l j (λ u. m u.0) h a0
+
+-- past a limit, and the last of a whole expression
+pub last-limit-exit : (mode : Mode) (tokens : List Token) (i : ℕ) (t : Token) (s s1 : List Symbol) (v v1 v2 : Tracked) (p : Step) (b f : Bool) → slice_get tokens i ≡ Some t → p ≡ step.Moved → Tested mode tokens i t s ≡ None →
+    b ≡ true → JudgesPast b mode i (token_class t) s1 v1.shapes → i + 1 ≡ length tokens → f ≡ true → Finishes f s1 v1 v2 → Kept mode tokens i s v → Advances p t s v s1 v1 → Parses (outcome.PastLimit i) mode tokens
+last-limit-exit mode tokens i t s s1 v v1 v2 p b f g e n l j m k f0 h a0 =
+    limit-exit mode tokens i t s s1 v v1 p b g e n l j (λ u. u.1 whole.0 whole.1) h a0
+  where
+    whole : (x : Expr) × IsExpr tokens [] x
+    whole =
+        let a = subst (λ q. Finishes q s1 v1 v2) k f0 in
+        let d = moved-back tokens i t s s1 v v1 p g e h.back a0 [] v2 a.ends in
+        let same : take (i + 1) tokens ++ [] ≡ tokens = append-nil (take (i + 1) tokens) ∙ take_all (i + 1) tokens (omega (arith, m)) in
+        let q = both-expr tokens v2 (subst (λ x. Spelled start x no_values v2) same d) in
+        (q.0, q.1)
+
+-- the last of an unfinished expression, past a limit or not
+pub unfinished-exit : (mode : Mode) (tokens : List Token) (i : ℕ) (t : Token) (s s1 : List Symbol) (v v1 v2 : Tracked) (p : Step) (f : Bool) → slice_get tokens i ≡ Some t → p ≡ step.Moved → Tested mode tokens i t s ≡ None →
+    i + 1 ≡ length tokens → f ≡ false → Finishes f s1 v1 v2 → Kept mode tokens i s v → Advances p t s v s1 v1 → Parses (outcome.Syntax (length tokens)) mode tokens
+unfinished-exit mode tokens i t s s1 v v1 v2 p f g e n m k f0 h a0 =
+    let a = subst (λ q. Finishes q s1 v1 v2) k f0 in
+    let j : length tokens ≤ i + 1 = omega (arith, m) in
+    let none : NoExpr tokens = subst NoExpr (take_all (i + 1) tokens j) (no-expr (take (i + 1) tokens) s1 v1 (moved-ahead tokens i t s s1 v v1 p g e h.ahead a0) a) in
+    let clean = clean-next mode tokens i h.clean (inside-at mode tokens i t s v g h.ahead h.back n) (λ x. x.1 (m, none)) in
+    (run-end tokens (i + 1) s1 v1 j (moved-back tokens i t s s1 v v1 p g e h.back a0), clean-end mode tokens (i + 1) j clean, inside-end mode tokens (length tokens) (omega arith), subst NoExpr (sym (take_all (length tokens) tokens (omega arith))) none)
+
+pub next-kept : (mode : Mode) (tokens : List Token) (i : ℕ) (t : Token) (s s1 : List Symbol) (v v1 : Tracked) (p : Step) (b : Bool) → slice_get tokens i ≡ Some t → p ≡ step.Moved → Tested mode tokens i t s ≡ None →
+    b ≡ false → JudgesPast b mode i (token_class t) s1 v1.shapes → Kept mode tokens i s v → Advances p t s v s1 v1 → Kept mode tokens (i + 1) s1 v1
+next-kept mode tokens i t s s1 v v1 p b g e n f j0 h a0 =
+    let ahead = moved-ahead tokens i t s s1 v v1 p g e h.ahead a0 in
+    let j = subst (λ q. JudgesPast q mode i (token_class t) s1 v1.shapes) f j0 in
+    record {
+      good = (subst (λ q. Advances q t s v s1 v1) e a0).good;
+      ahead = ahead;
+      back = moved-back tokens i t s s1 v v1 p g e h.back a0;
+      clean = clean-next mode tokens i h.clean (inside-at mode tokens i t s v g h.ahead h.back n) (λ x. limits ahead j x.0);
+    }
+  where
+    limits : Ahead (take (i + 1) tokens) s1 v1 → JudgesPast false mode i (token_class t) s1 v1.shapes → PastLimit mode tokens i → ⊥
+    limits ahead j (inl k) = j.0 k
+    limits ahead j (inr k) = not-deep-at mode tokens i t s1 v1 false refl g ahead j.1 k
 
 pub whole-end : (mode : Mode) (tokens : List Token) (i : ℕ) (s : List Symbol) (v v1 : Tracked) (b : Bool) (r : Expr) → length tokens ≤ i → b ≡ true → r ≡ operand v1.values →
     Kept mode tokens i s v → Finishes b s v v1 → Parses (outcome.Value r (length tokens)) mode tokens

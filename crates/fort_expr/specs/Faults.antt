@@ -75,10 +75,19 @@ TooDeepAt mode tokens i =
 abbrev pub PastLimit : Mode → List Token → ℕ → Type 0
 PastLimit mode tokens i = (token_limit mode ≤ i) ⊎ TooDeepAt mode tokens i
 
--- None of the first n tokens is outside the profile or past a limit.
+-- The token with this number is the last one, and all of them are no expression.
+abbrev pub Unfinished : List Token → ℕ → Type 0
+Unfinished tokens i = (i + 1 ≡ length tokens) × NoExpr tokens
+
+-- The token with this number has the fault of a limit: it is past one, and not the last of an unfinished expression, which is a fault of syntax at that token and comes
+-- before a limit there.
+abbrev pub LimitAt : Mode → List Token → ℕ → Type 0
+LimitAt mode tokens i = PastLimit mode tokens i × (Unfinished tokens i → ⊥)
+
+-- None of the first n tokens is outside the profile or has the fault of a limit.
 pub record Clean (mode : Mode) (tokens : List Token) (n : ℕ) : Type 0 where
   pub inside : (i : ℕ) → i < n → InsideAt mode tokens i
-  pub limited : (i : ℕ) → i < n → PastLimit mode tokens i → ⊥
+  pub limited : (i : ℕ) → i < n → LimitAt mode tokens i → ⊥
 
 -- What the tokens give. A whole expression is judged by itself; else so is the token behind the longest run.
 abbrev pub Parses : Outcome → Mode → List Token → Type 0
@@ -87,7 +96,7 @@ Parses (outcome.Syntax n) mode tokens = Run tokens n × Clean mode tokens n × I
 Parses (outcome.Outside n item) mode tokens =
     Begins (take n tokens) × Clean mode tokens n × (Begins (take (n + 1) tokens) ⊎ NoExpr (take n tokens))
     × OutsideAt mode tokens n item × ((other : ℕ) → OutsideAt mode tokens n other → item ≤ other)
-Parses (outcome.PastLimit n) mode tokens = (n < length tokens) × Begins (take (n + 1) tokens) × Clean mode tokens n × InsideAt mode tokens n × PastLimit mode tokens n
+Parses (outcome.PastLimit n) mode tokens = (n < length tokens) × Begins (take (n + 1) tokens) × Clean mode tokens n × InsideAt mode tokens n × LimitAt mode tokens n
 
 -- where the token with this number stands, or the last token where there are no more
 abbrev pub place_at : List Token → ℕ → Option Place

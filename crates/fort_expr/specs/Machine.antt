@@ -1,5 +1,6 @@
 -- The engine's words at the values of an expression.
-use Rattle.std.specs.Prelude.{◌≡◌, ℕ, Bool, true, false, List, [], ◌∷◌, ◌++◌}
+use Rattle.std.specs.Prelude.{◌≡◌, ◌⊎◌, ℕ, ◌≤◌, Bool, true, false, List, [], ◌∷◌, ◌++◌}
+use Rattle.fort_tree.specs.declared.choice.Mode.{Mode}
 use Rattle.fort_tree.specs.declared.statement.Token.{Token}
 use Rattle.fort_grammar.specs.declared.class.Class.{Class}
 use Rattle.fort_grammar.specs.declared.engine.Step.{Step}
@@ -12,7 +13,7 @@ use Rattle.fort_expr.specs.declared.build.Tracked.{Tracked}
 use Rattle.fort_expr.specs.declared.value.Shape.{Shape}
 use Rattle.fort_expr.specs.declared.value.Value.{Value}
 use Rattle.fort_expr.specs.Closing.{Judges}
-use Rattle.fort_expr.specs.Faults.{is_leaf}
+use Rattle.fort_expr.specs.Faults.{is_leaf, depth_limit, token_limit}
 use Rattle.fort_expr.specs.Tracks.{shift_both, apply_both, no_values}
 use Rattle.fort_expr.specs.Values.{shift, apply}
 
@@ -52,3 +53,8 @@ Back front s v = (w : List Token) (u : Tracked) → Spelled s w v u → Spelled 
 abbrev pub JudgesAt : Bool → Class → ℕ → List Symbol → List Shape → Type 0
 JudgesAt true c limit s v = (is_leaf c ≡ true) × Judges true limit s v
 JudgesAt false c limit s v = is_leaf c ≡ true → Judges false limit s v
+
+-- Or the token has a number past the limit of tokens.
+abbrev pub JudgesPast : Bool → Mode → ℕ → Class → List Symbol → List Shape → Type 0
+JudgesPast true mode i c s v = (token_limit mode ≤ i) ⊎ JudgesAt true c (depth_limit mode) s v
+JudgesPast false mode i c s v = (token_limit mode ≤ i → ⊥) × JudgesAt false c (depth_limit mode) s v

@@ -1,11 +1,13 @@
 //! The expression at the front of tokens.
 ghost use Rattle.std.specs.Prelude.{◌≡◌, ◌<◌, ◌≤◌, length, IfOk};
 ghost use Rattle.fort_expr.specs.Faults.{Parses, Answers, depth_limit as depth_limit_of, token_limit as token_limit_of, place_at as place_of_number};
+ghost use Rattle.fort_expr.specs.Machine.{JudgesPast};
 
 use crate::build::{Tracked, pop_operand};
 use crate::depth::is_deep_at;
 use crate::outside::{class_behind, item};
-use fort_grammar::{Part, Stack, Step, Symbol, advance, class_of, finish};
+use crate::value::Shape;
+use fort_grammar::{Class, Part, Stack, Step, Symbol, advance, class_of, finish};
 use fort_tree::{Code, Expr, Fault, Line, Mode, NoMemory, Place, Stop, Token};
 use std::alloc::Global;
 
@@ -17,7 +19,7 @@ pub enum Outcome {
     Syntax(usize),
     /// The token behind the first ones is outside the profile, with the item.
     Outside(usize, u8),
-    /// The token behind the first ones is one too many, or the expression cut behind it is too deep.
+    /// The token behind the first ones is one too many, or the expression cut behind it is too deep; and it isn't the last of an unfinished expression.
     PastLimit(usize),
 }
 
@@ -39,6 +41,24 @@ pub fn token_limit(mode: Mode) -> usize
         Mode::Source => 1000,
         Mode::Target => 16000,
     }
+}
+
+/// Whether a token of the class, with the number `i`, is past a limit.
+fn is_past_limit(
+    alloc: Global,
+    mode: Mode,
+    i: usize,
+    stack: &Stack<Symbol>,
+    shapes: &Stack<Shape>,
+    class: Class,
+) -> Result<bool, NoMemory>
+    ensures { IfOk result (λ b. JudgesPast b mode i class stack.now shapes.now) }
+{
+    let past = i >= token_limit(mode);
+    if past {
+        return Ok(true);
+    }
+    is_deep_at(alloc, stack, shapes, class, depth_limit(mode))
 }
 
 fn parse(alloc: Global, mode: Mode, tokens: &[Token]) -> Result<Outcome, NoMemory>
@@ -65,18 +85,17 @@ fn parse(alloc: Global, mode: Mode, tokens: &[Token]) -> Result<Outcome, NoMemor
         if let Some(item) = outside {
             return Ok(Outcome::Outside(i, item));
         }
-        let past = i >= token_limit(mode);
+        let past = is_past_limit(alloc, mode, i, &stack, &values.shapes, class_of(token))?;
         if past {
-            return Ok(Outcome::PastLimit(i));
-        }
-        let deep = is_deep_at(
-            alloc,
-            &stack,
-            &values.shapes,
-            class_of(token),
-            depth_limit(mode),
-        )?;
-        if deep {
+            let last = i + 1 == tokens.len();
+            if last {
+                // What is unfinished at the last token comes before a limit there.
+                let ends = finish(alloc, &mut stack, &mut values)?;
+                if ends {
+                    return Ok(Outcome::PastLimit(i));
+                }
+                return Ok(Outcome::Syntax(tokens.len()));
+            }
             return Ok(Outcome::PastLimit(i));
         }
     }
@@ -109,7 +128,7 @@ fn place_at(tokens: &[Token], i: usize) -> Place
 /// - `E70` at the first name, number or truth value behind which the expression is deeper than 64, its open parentheses closed, or at the first of these tokens past 1000; in a
 ///   target text 96 and 16000.
 ///
-/// At one place E20 comes before E10. `NoMemory` only where memory was refused.
+/// At one token E20 comes before E10, and that before E70. `NoMemory` only where memory was refused.
 pub fn expression(alloc: Global, line: &Line, at: usize) -> Result<(Expr, usize), Stop>
     requires token { 0 < length line.now.tokens }
     requires at { at ≤ length line.now.tokens }

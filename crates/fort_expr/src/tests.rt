@@ -86,12 +86,42 @@ fn finds_a_made_name(rt: HostRuntime) -> Result<(), Fail> {
     Ok(())
 }
 
-#[test]
-fn finds_what_is_too_deep(rt: HostRuntime) -> Result<(), Fail> {
-    let alloc = rt.alloc();
+/// A 1 in 64 open parentheses, and closing ones from column 66 up to the column `end`.
+fn nested(alloc: Global, end: u32) -> Result<Line, Fail> {
     let mut tokens = Seq::new(alloc);
     for column in 1..65 {
         tokens.push(token(alloc, b"(", column)?)?;
+    }
+    tokens.push(token(alloc, b"1", 65)?)?;
+    for column in 66..end {
+        tokens.push(token(alloc, b")", column)?)?;
+    }
+    Ok(line(tokens))
+}
+
+#[test]
+fn finds_what_is_too_deep(rt: HostRuntime) -> Result<(), Fail> {
+    let alloc = rt.alloc();
+    let rows = [
+        // What is unfinished at the last token comes before the limit there.
+        (66, Code::E10),
+        (67, Code::E70),
+        (130, Code::E70),
+    ];
+    for (end, code) in rows {
+        let line = nested(alloc, end)?;
+        assert_eq!(rt; judged(alloc, &line).err(), Some(Some((code, 0, 65))));
+    }
+    Ok(())
+}
+
+#[test]
+fn finds_that_the_last_is_too_deep(rt: HostRuntime) -> Result<(), Fail> {
+    let alloc = rt.alloc();
+    let mut tokens = Seq::new(alloc);
+    for column in 1..65 {
+        tokens.push(token(alloc, b"1", column)?)?;
+        tokens.push(token(alloc, b"+", column)?)?;
     }
     tokens.push(token(alloc, b"1", 65)?)?;
     assert_eq!(rt;

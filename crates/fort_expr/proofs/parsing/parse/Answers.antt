@@ -1,8 +1,7 @@
-use Rattle.std.proofs.Common.{◌≤◌, ◌∙◌, sym, ap, subst, Some, None, arith}
+use Rattle.std.proofs.Common.{◌∙◌, sym, ap, subst, Some, None}
 use Rattle.std.proofs.lemmas.Option.{slice_get-get_or}
-use Rattle.fort_expr.specs.Faults.{depth_limit}
-use Rattle.fort_expr.specs.Machine.{JudgesAt}
-use Rattle.fort_expr.proofs.Stops.{tested, whole-exit, syntax-exit, outside-stuck-exit, outside-moved-exit, long-exit, deep-exit, next-kept, whole-end, syntax-end}
+use Rattle.fort_expr.specs.Machine.{JudgesPast}
+use Rattle.fort_expr.proofs.Stops.{tested, whole-exit, syntax-exit, outside-stuck-exit, outside-moved-exit, unfinished-exit, last-limit-exit, inner-limit-exit, next-kept, whole-end, syntax-end}
 use Rattle.fort_expr.proofs.parsing.parse.Goals as goal
 
 pub returns-in-Whole : goal.returns-in-Whole
@@ -27,30 +26,37 @@ returns-in-Some-outside c = outside-moved-exit c.args.mode c.args.tokens.now c.l
     (tested c.args.mode c.args.tokens.now c.loop-i.i c.index-tokens-i.result c.loop-i.stack c.item-outside.result (Some c.in-Some-outside.item) c.class_behind.result c.item-outside.ensures c.class_behind.ensures c.in-Some-outside.is)
     c.loop-i.invariant c.in_ok-advance.ensures
 
-pub returns-then-past : goal.returns-then-past
-returns-then-past c = long-exit c.args.mode c.args.tokens.now c.loop-i.i c.index-tokens-i.result c.loop-i.stack c.advance.new.stack c.loop-i.values c.advance.new.values c.in_ok-advance.field-0
+pub returns-then-last : goal.returns-then-last
+returns-then-last c = unfinished-exit c.args.mode c.args.tokens.now c.loop-i.i c.index-tokens-i.result c.loop-i.stack c.advance.new.stack c.loop-i.values c.advance.new.values c.finish.new.values c.in_ok-advance.field-0 c.in_ok-ends.ends
     (slice_get-get_or c.args.tokens.now c.loop-i.i _ c.loop-i-test.true ∙ ap Some (sym c.index-tokens-i.is)) c.in-Moved.is
     (tested c.args.mode c.args.tokens.now c.loop-i.i c.index-tokens-i.result c.loop-i.stack c.item-outside.result None c.class_behind.result c.item-outside.ensures c.class_behind.ensures c.in_default-outside.is)
-    (subst (λ n. n ≤ c.loop-i.i) c.token_limit.ensures c.if-past.true) c.loop-i.invariant c.in_ok-advance.ensures
+    c.if-last.true c.if-ends.false c.in_ok-ends.ensures c.loop-i.invariant c.in_ok-advance.ensures
 
-pub returns-then-deep : goal.returns-then-deep
-returns-then-deep c = deep-exit c.args.mode c.args.tokens.now c.loop-i.i c.index-tokens-i.result c.loop-i.stack c.advance.new.stack c.loop-i.values c.advance.new.values c.in_ok-advance.field-0 c.in_ok-deep.deep
+pub returns-then-ends : goal.returns-then-ends
+returns-then-ends c = last-limit-exit c.args.mode c.args.tokens.now c.loop-i.i c.index-tokens-i.result c.loop-i.stack c.advance.new.stack c.loop-i.values c.advance.new.values c.finish.new.values c.in_ok-advance.field-0 c.in_ok-past.past c.in_ok-ends.ends
     (slice_get-get_or c.args.tokens.now c.loop-i.i _ c.loop-i-test.true ∙ ap Some (sym c.index-tokens-i.is)) c.in-Moved.is
     (tested c.args.mode c.args.tokens.now c.loop-i.i c.index-tokens-i.result c.loop-i.stack c.item-outside.result None c.class_behind.result c.item-outside.ensures c.class_behind.ensures c.in_default-outside.is)
-    c.if-deep.true (subst (λ q. JudgesAt c.in_ok-deep.deep q (depth_limit c.args.mode) c.advance.new.stack c.advance.new.values.shapes) c.class_of.ensures (subst (λ q. JudgesAt c.in_ok-deep.deep c.class_of.result q c.advance.new.stack c.advance.new.values.shapes) c.depth_limit.ensures c.in_ok-deep.ensures)) c.loop-i.invariant c.in_ok-advance.ensures
+    c.if-past.true (subst (λ q. JudgesPast c.in_ok-past.past c.args.mode c.loop-i.i q c.advance.new.stack c.advance.new.values.shapes) c.class_of.ensures c.in_ok-past.ensures)
+    c.if-last.true c.if-ends.true c.in_ok-ends.ensures c.loop-i.invariant c.in_ok-advance.ensures
+
+pub returns-then-past : goal.returns-then-past
+returns-then-past c = inner-limit-exit c.args.mode c.args.tokens.now c.loop-i.i c.index-tokens-i.result c.loop-i.stack c.advance.new.stack c.loop-i.values c.advance.new.values c.in_ok-advance.field-0 c.in_ok-past.past
+    (slice_get-get_or c.args.tokens.now c.loop-i.i _ c.loop-i-test.true ∙ ap Some (sym c.index-tokens-i.is)) c.in-Moved.is
+    (tested c.args.mode c.args.tokens.now c.loop-i.i c.index-tokens-i.result c.loop-i.stack c.item-outside.result None c.class_behind.result c.item-outside.ensures c.class_behind.ensures c.in_default-outside.is)
+    c.if-past.true (subst (λ q. JudgesPast c.in_ok-past.past c.args.mode c.loop-i.i q c.advance.new.stack c.advance.new.values.shapes) c.class_of.ensures c.in_ok-past.ensures)
+    c.if-last.false c.loop-i.invariant c.in_ok-advance.ensures
 
 pub loop-i-preserved : goal.loop-i-preserved
-loop-i-preserved c = next-kept c.args.mode c.args.tokens.now c.loop-i.i c.index-tokens-i.result c.loop-i.stack c.advance.new.stack c.loop-i.values c.advance.new.values c.in_ok-advance.field-0 c.in_ok-deep.deep
+loop-i-preserved c = next-kept c.args.mode c.args.tokens.now c.loop-i.i c.index-tokens-i.result c.loop-i.stack c.advance.new.stack c.loop-i.values c.advance.new.values c.in_ok-advance.field-0 c.in_ok-past.past
     (slice_get-get_or c.args.tokens.now c.loop-i.i _ c.loop-i-test.true ∙ ap Some (sym c.index-tokens-i.is)) c.in-Moved.is
     (tested c.args.mode c.args.tokens.now c.loop-i.i c.index-tokens-i.result c.loop-i.stack c.item-outside.result None c.class_behind.result c.item-outside.ensures c.class_behind.ensures c.in_default-outside.is)
-    (λ l. let h : c.token_limit.result ≤ c.loop-i.i = subst (λ n. n ≤ c.loop-i.i) (sym c.token_limit.ensures) l in omega (arith, h, c.if-past.false)) c.if-deep.false
-    (subst (λ q. JudgesAt c.in_ok-deep.deep q (depth_limit c.args.mode) c.advance.new.stack c.advance.new.values.shapes) c.class_of.ensures (subst (λ q. JudgesAt c.in_ok-deep.deep c.class_of.result q c.advance.new.stack c.advance.new.values.shapes) c.depth_limit.ensures c.in_ok-deep.ensures))
+    c.if-past.false (subst (λ q. JudgesPast c.in_ok-past.past c.args.mode c.loop-i.i q c.advance.new.stack c.advance.new.values.shapes) c.class_of.ensures c.in_ok-past.ensures)
     c.loop-i.invariant c.in_ok-advance.ensures
 
 pub returns-then-whole : goal.returns-then-whole
-returns-then-whole c = whole-end c.args.mode c.args.tokens.now c.loop-i.i c.loop-i.stack c.loop-i.values c.finish.new.values c.in_ok-whole.whole c.pop_operand-then-whole.result.0
+returns-then-whole c = whole-end c.args.mode c.args.tokens.now c.loop-i.i c.loop-i.stack c.loop-i.values c.finish-2.new.values c.in_ok-whole.whole c.pop_operand-then-whole.result.0
     c.loop-i-test.false c.if-whole.true c.pop_operand-then-whole.ensures.value c.loop-i.invariant c.in_ok-whole.ensures
 
 pub returns : goal.returns
-returns c = syntax-end c.args.mode c.args.tokens.now c.loop-i.i c.loop-i.stack c.loop-i.values c.finish.new.values c.in_ok-whole.whole
+returns c = syntax-end c.args.mode c.args.tokens.now c.loop-i.i c.loop-i.stack c.loop-i.values c.finish-2.new.values c.in_ok-whole.whole
     c.loop-i-test.false c.if-whole.false c.loop-i.invariant c.in_ok-whole.ensures
