@@ -1,5 +1,5 @@
 -- The layout of rows: each row is spaced, and broken into lines.
-use Rattle.std.specs.Prelude.{ℕ, ◌+◌, Bool, true, false, nat_le, List, [], ◌∷◌, ◌++◌, length, if◌then◌else◌, codes, min}
+use Rattle.std.specs.Prelude.{◌≡◌, ℕ, ◌+◌, Bool, true, false, nat_le, List, [], ◌∷◌, ◌++◌, length, if◌then◌else◌, codes, min}
 use Rattle.fort_spell.specs.declared.line.Margin.{Margin}
 use Rattle.fort_spell.specs.declared.line.Sentinel.{Sentinel}
 use Rattle.fort_spell.specs.declared.line.Sentinel.TheVariants as sentinel
@@ -61,3 +61,13 @@ all_rows (b ∷ bs) n rs = b n (all_rows bs n rs)
 -- a statement of one row
 abbrev pub one_row : Spelling → Block
 one_row f n rs = row n (f false []) rs
+
+-- the indentation of the next line
+abbrev pub next_indent : List Row → ℕ
+next_indent [] = 0
+next_indent (r ∷ rs) = r.margin.indent
+
+-- Whether a block has rows: the first of them has the block's indentation. Without one the next line is what stands
+-- behind it.
+pub record Starts (some : Bool) (block : Block) : Type 0 where
+  pub next : (n : ℕ) (rs : List Row) → next_indent (block n rs) ≡ (if some then n else next_indent rs)

@@ -23,7 +23,7 @@ use Rattle.fort_spell.specs.declared.mark.Mark.TheVariants as mark
 use Rattle.fort_spell.specs.declared.line.Sentinel.TheVariants as sentinel
 use Rattle.fort_spell.specs.Pieces.{Piece, Spelling, word, sign, number, bracketed, items, span, name_pieces, pair, end_pieces}
 use Rattle.fort_spell.specs.Expressions.{expr_pieces, bound_pieces}
-use Rattle.fort_spell.specs.Rows.{Row, Block, one_row, mark_row, all_rows, deeper, text}
+use Rattle.fort_spell.specs.Rows.{Row, Block, one_row, mark_row, all_rows, deeper, next_indent, text}
 use Rattle.fort_spell.specs.Statements.{stmts_rows}
 
 abbrev pub named_pieces : Named → Spelling
@@ -130,9 +130,14 @@ decls_rows ds = all_rows (map (λ d. one_row (decl_pieces d)) ds)
 abbrev pub routines_rows : List Directive → Block
 routines_rows ds = all_rows (map (λ d. routine_rows d.word) ds)
 
--- what stands in a unit
+-- what stands in a unit, its mark line at the indentation m
+abbrev pub parts_marked : ℕ → ProgramUnit → Block
+parts_marked m u n rs = uses_rows u.uses n (own_implicit_rows u.host n (decls_rows u.decls n (routines_rows u.marks m (stmts_rows u.body n rs))))
+
+-- What stands in a unit. The mark line is at the indentation of the next line: of the first statement, and where no
+-- statement is written, of what stands behind.
 abbrev pub unit_parts : ProgramUnit → Block
-unit_parts u n rs = uses_rows u.uses n (own_implicit_rows u.host n (decls_rows u.decls n (routines_rows u.marks n (stmts_rows u.body n rs))))
+unit_parts u n rs = parts_marked (next_indent (stmts_rows u.body n rs)) u n rs
 
 abbrev pub unit_rows : ProgramUnit → Block
 unit_rows u n rs = one_row (header_pieces u) n (unit_parts u (deeper n) (one_row (end_pieces (unit_word u.result) u.name) n rs))

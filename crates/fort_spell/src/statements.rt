@@ -1,6 +1,6 @@
 //! Statements and their blocks (ISO/IEC 1539-1:2018 11.1).
 ghost use Rattle.std.specs.Prelude.{◌≡◌, ◌≤◌, None, Some, map, true};
-ghost use Rattle.fort_spell.specs.Rows.{deeper as deeper_than, laid};
+ghost use Rattle.fort_spell.specs.Rows.{Starts, deeper as deeper_than, laid};
 ghost use Rattle.fort_spell.specs.Statements.{arm_rows, case_rows, default_rows, else_rows, is_one_line, is_some, lone, loop_mark_rows, mark_rows, one_line_rows, print, print_arm, print_case, private_list, private_pieces, stmts_rows};
 ghost use Rattle.fort_spell.specs.Stream.{Put, rows_shown};
 
@@ -330,4 +330,28 @@ fn put_default<S: Sink>(
 {
     let so_far = put_pair_row(b"case", b"default", indent, so_far, sink);
     put_inner(body, indent, so_far, sink)
+}
+
+/// Whether a statement has rows. A block has those of its statements alone.
+#[cycle(written)]
+fn is_written(stmt: &Stmt) -> bool
+    ensures { Starts result (print stmt.now).rows }
+{
+    match stmt {
+        Stmt::Block { body, .. } | Stmt::Piece(body) => are_written(body.items()),
+        _ => true,
+    }
+}
+
+/// Whether statements have rows.
+#[cycle(written)]
+pub fn are_written(body: &[Stmt]) -> bool
+    ensures { Starts result (stmts_rows body.now) }
+{
+    for stmt in body {
+        if is_written(stmt) {
+            return true;
+        }
+    }
+    false
 }

@@ -316,6 +316,22 @@ fn function(alloc: Global) -> Option<Unit> {
     Some(made)
 }
 
+/// A unit of the module without statements: its mark line stands with its END line.
+fn idle(alloc: Global) -> Option<Unit> {
+    let mut made = unit(alloc, b"t", None, Some(0))?;
+    made.decls = only(alloc, plain(alloc))?;
+    made.marks = only(alloc, mark(DirectiveWord::Routine, empty(alloc)))?;
+    Some(made)
+}
+
+/// An external unit whose only statement has no rows.
+fn bare(alloc: Global) -> Option<Unit> {
+    let mut made = unit(alloc, b"s", None, None)?;
+    made.marks = only(alloc, mark(DirectiveWord::Routine, empty(alloc)))?;
+    made.body = only(alloc, Some(Stmt::Piece(Seq::new(alloc))))?;
+    Some(made)
+}
+
 /// `use base, only: k`.
 fn used(alloc: Global) -> Option<Use> {
     let name = Name::read(b"base")?;
@@ -339,9 +355,10 @@ fn module(alloc: Global) -> Option<Module> {
     })
 }
 
-/// A module with a function, and an external unit before it.
+/// A module with a function and a subroutine, and an external unit before it.
 fn whole_file(alloc: Global) -> Option<File> {
-    let units = with(only(alloc, function(alloc)), unit(alloc, b"s", None, None))?;
+    let units = with(only(alloc, function(alloc)), bare(alloc));
+    let units = with(units, idle(alloc))?;
     let modules = only(alloc, module(alloc))?;
     let order = with(only(alloc, Some(Item::Unit(1))), Some(Item::Module(0)))?;
     Some(File {
@@ -353,6 +370,7 @@ fn whole_file(alloc: Global) -> Option<File> {
 
 const WHOLE_FILE: &str = "subroutine s()
   implicit none
+!$acc routine seq
 end subroutine s
 module m
   use base, only: k
@@ -363,6 +381,10 @@ contains
     !$acc routine seq
     r = x
   end function f
+  subroutine t()
+    integer :: k
+  !$acc routine seq
+  end subroutine t
 end module m
 ";
 

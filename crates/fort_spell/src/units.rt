@@ -1,10 +1,11 @@
 //! Units, modules and files (ISO/IEC 1539-1:2018 clauses 14 and 15).
-ghost use Rattle.std.specs.Prelude.{◌≡◌, ◌≤◌, codes, false, map, slice_get};
+ghost use Rattle.std.specs.Prelude.{◌≡◌, ◌≤◌, List, codes, false, map, slice_get};
 ghost use Rattle.std.specs.Option.{option_copied};
-ghost use Rattle.fort_spell.specs.Pieces.{end_pieces, pair, word};
-ghost use Rattle.fort_spell.specs.Rows.{all_rows, deeper as deeper_than, laid, one_row};
+ghost use Rattle.fort_spell.specs.Pieces.{Spelling, end_pieces, pair, word};
+ghost use Rattle.fort_spell.specs.Rows.{Row, all_rows, deeper as deeper_than, laid, next_indent, one_row};
+ghost use Rattle.fort_spell.specs.Statements.{stmts_rows};
 ghost use Rattle.fort_spell.specs.Stream.{Put, rows_shown, starting};
-ghost use Rattle.fort_spell.specs.Units.{bytes_pieces, chosen_unit, contained_rows, function_clause, has_some, implicit_rows, intent_pieces, intent_word, is_host, item_rows, kind_pieces, module_parts, module_rows, only_list, own_implicit_rows, parameter_pieces, result_of, routine_rows, routines_rows, shape_pieces, unit_parts, unit_rows, unit_word, units_of, value_pieces};
+ghost use Rattle.fort_spell.specs.Units.{bytes_pieces, chosen_unit, contained_rows, function_clause, has_some, implicit_rows, intent_pieces, intent_word, is_host, item_rows, kind_pieces, module_parts, module_rows, only_list, own_implicit_rows, parameter_pieces, parts_marked, result_of, routine_rows, routines_rows, shape_pieces, unit_rows, unit_word, units_of, value_pieces};
 
 use crate::expressions::put_expr;
 use crate::line::{Margin, Sentinel};
@@ -13,10 +14,11 @@ use crate::lists::{
 };
 use crate::mark::Mark;
 use crate::put::{Reached, close_row, open_row, put_mark, put_name, put_number, put_word};
-use crate::statements::{deeper, put_body};
+use crate::statements::{are_written, deeper, put_body};
 use fort_arith::Kind;
 use fort_tree::{
-    Bound, Decl, Directive, DirectiveWord, Expr, File, Intent, Item, Module, Name, Named, Unit, Use,
+    Bound, Decl, Directive, DirectiveWord, Expr, File, Intent, Item, Module, Name, Named, Stmt,
+    Unit, Use,
 };
 use outside::{Failed, Sink};
 
@@ -356,33 +358,50 @@ fn put_routines<S: Sink>(
     so_far
 }
 
-/// Puts what stands in a unit.
+/// The indentation of a unit's mark line: that of the next line. Before statements that have no row it is the unit's END line.
+fn mark_indent(body: &[Stmt], indent: usize) -> usize
+    requires { indent ≤ 40 }
+    ensures value { (end : Spelling) (rs : List Row) → next_indent (stmts_rows body.now (deeper_than indent) (one_row end indent rs)) ≡ result }
+    ensures most { result ≤ 40 }
+{
+    if are_written(body) {
+        deeper(indent)
+    } else {
+        indent
+    }
+}
+
+/// Puts what stands in a unit, its mark line at an indentation of its own.
 fn put_unit_parts<S: Sink>(
     unit: &Unit,
+    mark: usize,
     indent: usize,
     so_far: Result<(), Failed>,
     sink: &mut S,
 ) -> Result<(), Failed>
-    requires { indent ≤ 40 }
-    ensures { Put rows_shown so_far result (S.taken sink.old) (S.taken sink.new) (S.faults sink.old) (S.faults sink.new) (unit_parts unit.now indent) }
+    requires indent { indent ≤ 40 }
+    requires mark { mark ≤ 40 }
+    ensures { Put rows_shown so_far result (S.taken sink.old) (S.taken sink.new) (S.faults sink.old) (S.faults sink.new) (parts_marked mark unit.now indent) }
 {
     let so_far = put_rows(unit.uses.items(), indent, so_far, sink);
     let so_far = put_own_implicit(unit.host, indent, so_far, sink);
     let so_far = put_rows(unit.decls.items(), indent, so_far, sink);
-    let so_far = put_routines(unit.marks.items(), indent, so_far, sink);
+    let so_far = put_routines(unit.marks.items(), mark, so_far, sink);
     put_body(unit.body.items(), indent, so_far, sink)
 }
 
 fn put_unit_inside<S: Sink>(
     unit: &Unit,
+    mark: usize,
     indent: usize,
     so_far: Result<(), Failed>,
     sink: &mut S,
 ) -> Result<(), Failed>
-    requires { indent ≤ 40 }
-    ensures { Put rows_shown so_far result (S.taken sink.old) (S.taken sink.new) (S.faults sink.old) (S.faults sink.new) (unit_parts unit.now (deeper_than indent)) }
+    requires indent { indent ≤ 40 }
+    requires mark { mark ≤ 40 }
+    ensures { Put rows_shown so_far result (S.taken sink.old) (S.taken sink.new) (S.faults sink.old) (S.faults sink.new) (parts_marked mark unit.now (deeper_than indent)) }
 {
-    put_unit_parts(unit, deeper(indent), so_far, sink)
+    put_unit_parts(unit, mark, deeper(indent), so_far, sink)
 }
 
 fn put_unit_end<S: Sink>(
@@ -407,8 +426,9 @@ fn put_unit<S: Sink>(
     requires { indent ≤ 40 }
     ensures { Put rows_shown so_far result (S.taken sink.old) (S.taken sink.new) (S.faults sink.old) (S.faults sink.new) (unit_rows unit.now indent) }
 {
+    let mark = mark_indent(unit.body.items(), indent);
     let so_far = put_row(unit, indent, so_far, sink);
-    let so_far = put_unit_inside(unit, indent, so_far, sink);
+    let so_far = put_unit_inside(unit, mark, indent, so_far, sink);
     put_unit_end(unit, indent, so_far, sink)
 }
 

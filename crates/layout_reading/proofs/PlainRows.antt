@@ -29,7 +29,7 @@ use Rattle.fort_tree.specs.Unplaced.{nowhere}
 use Rattle.fort_spell.specs.declared.mark.Mark.TheVariants as mark
 use Rattle.fort_spell.specs.Pieces.{Piece, Spelling, word, sign, bracketed, span, or_none, items, name_pieces, pair, end_pieces}
 use Rattle.fort_spell.specs.Expressions.{expr_step, sub_step, expr_pieces, sub_pieces, bound_pieces}
-use Rattle.fort_spell.specs.Rows.{Row, Block, row, one_row, deeper, all_rows}
+use Rattle.fort_spell.specs.Rows.{Row, Block, row, one_row, deeper, next_indent, all_rows}
 use Rattle.fort_spell.specs.Statements.{Printed, PrintedArm, PrintedCase, printed, acts, call_printed, argument_pieces, call_pieces, then_pieces, else_if_pieces, step_pieces, do_pieces, select_pieces, range_pieces, case_pieces, loop_mark_rows, mark_rows, body_rows, lone, else_if_rows, arm_rows, else_rows, is_some, one_line_rows, if_rows, case_rows, default_rows, stmt_step, arm_step, case_step, print, print_arm, print_case, stmts_rows}
 use Rattle.claw_meaning.specs.Syntax as plain
 use Rattle.claw_meaning.specs.Plain as p
@@ -529,7 +529,9 @@ abbrev header' : plain.Unit → Spelling
 header' u s k = word s (unit_word' u.result) (word true u.name (bracketed true (map name_pieces u.dummies) false (function_clause' u.name u.result k)))
 
 abbrev unit_parts' : plain.Unit → Block
-unit_parts' u n rs = uses_rows' u.uses n (own_implicit_rows u.host n (decls_rows' u.decls n (routines_rows' u.marks n (body_rows (psts u.body) n rs))))
+unit_parts' u n rs =
+    let body : List Row = body_rows (psts u.body) n rs in
+    uses_rows' u.uses n (own_implicit_rows u.host n (decls_rows' u.decls n (routines_rows' u.marks (next_indent body) body)))
 
 abbrev unit_rows' : plain.Unit → Block
 unit_rows' u n rs = row n (header' u false []) (unit_parts' u (deeper n) (row n (end_pieces (unit_word' u.result) u.name false []) rs))
@@ -550,10 +552,11 @@ header_same u s k =
 parts_same : (u : tree_unit.Unit) (n : ℕ) (rs : List Row) → unit_parts' (p.plain_unit u) n rs ≡ unit_parts u n rs
 parts_same u n rs =
     let k1 : List Row = stmts_rows u.body n rs in
-    let k2 : List Row = routines_rows u.marks n k1 in
+    let m : ℕ = next_indent k1 in
+    let k2 : List Row = routines_rows u.marks m k1 in
     let k3 : List Row = decls_rows u.decls n k2 in
-    (λ t. uses_rows' (map p.plain_use u.uses) n (own_implicit_rows u.host n (decls_rows' (map p.plain_decl u.decls) n (routines_rows' (map p.plain_directive u.marks) n (body_rows (stmts_are u.body t) n rs)))))
-    ∙ (λ t. uses_rows' (map p.plain_use u.uses) n (own_implicit_rows u.host n (decls_rows' (map p.plain_decl u.decls) n (routines_same u.marks n k1 t))))
+    (λ t. uses_rows' (map p.plain_use u.uses) n (own_implicit_rows u.host n (decls_rows' (map p.plain_decl u.decls) n (routines_rows' (map p.plain_directive u.marks) (next_indent (body_rows (stmts_are u.body t) n rs)) (body_rows (stmts_are u.body t) n rs)))))
+    ∙ (λ t. uses_rows' (map p.plain_use u.uses) n (own_implicit_rows u.host n (decls_rows' (map p.plain_decl u.decls) n (routines_same u.marks m k1 t))))
     ∙ (λ t. uses_rows' (map p.plain_use u.uses) n (own_implicit_rows u.host n (decls_same u.decls n k2 t)))
     ∙ (λ t. uses_same u.uses n (own_implicit_rows u.host n k3) t)
 

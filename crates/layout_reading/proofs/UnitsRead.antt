@@ -1,5 +1,5 @@
 -- Units are read again.
-use Rattle.std.proofs.Common.{◌≡◌, ℕ, ◌≤◌, List, [], ◌∷◌, ◌++◌, Option, None, Some, false, map, refl, sym, ap, ◌∙◌, subst, codes}
+use Rattle.std.proofs.Common.{◌≡◌, ℕ, ◌≤◌, List, [], ◌∷◌, ◌++◌, Option, None, Some, false, map, refl, sym, ap, ◌∙◌, subst, codes, arith}
 use Rattle.fort_arith.specs.declared.kind.Kind.{Kind}
 use Rattle.fort_tree.specs.declared.choice.Mode.TheVariants.{Target}
 use Rattle.fort_tree.specs.declared.place.Place.{Place}
@@ -14,7 +14,7 @@ use Rattle.fort_tree.specs.declared.unit.Decl.{Decl}
 use Rattle.fort_tree.specs.declared.unit.Unit as tree_unit
 use Rattle.fort_tree.specs.declared.unit.Use.{Use}
 use Rattle.fort_spell.specs.Pieces.{end_pieces}
-use Rattle.fort_spell.specs.Rows.{Row, row, deeper}
+use Rattle.fort_spell.specs.Rows.{Row, row, deeper, next_indent}
 use Rattle.fort_spell.specs.Statements.{stmts_rows}
 use Rattle.fort_spell.specs.Units.{own_implicit_rows, uses_rows, decls_rows, routines_rows, function_clause, header_pieces, unit_rows}
 use Rattle.claw_meaning.specs.Syntax as plain
@@ -48,13 +48,18 @@ head_fit h r =
     let m = marked_fit h.marked d.2 in
     record { uses = u.0; declared = d.0; alone = h.paired ∙ ap (λ x. x ++ h.among_decls) u.1 ∙ d.1; marks = m.0; left = m.1 }
 
+-- rows that can be read are indented by at most 40
+next_small : (rs : List Row) → AreReadable rs → next_indent rs ≤ 40
+next_small [] r = omega arith
+next_small (x ∷ rs) r = r.0.indented
+
 module _ (file : ℕ) where
   abbrev AreLinesOf : List Row → List TokenLine → Type 0
   AreLinesOf rows lines = AreLinesIn file rows lines
 
-  -- what stands before the statements
+  -- what stands before the statements: the mark line at the indentation of the next line
   abbrev pub head_rows : List Use → Option ℕ → List Decl → List Directive → ℕ → List Row → List Row
-  head_rows lines host decls marks n rs = uses_rows lines n (own_implicit_rows host n (decls_rows decls n (routines_rows marks n rs)))
+  head_rows lines host decls marks n rs = uses_rows lines n (own_implicit_rows host n (decls_rows decls n (routines_rows marks (next_indent rs) rs)))
 
   pub record HeadAgain (lines : List Use) (decls : List Decl) (marks : List Directive) (rs : List Row) (ls : List TokenLine) : Type 0 where
     pub back : List TokenLine
@@ -70,12 +75,12 @@ module _ (file : ℕ) where
   pub head_again : (lines : List Use) (host : Option ℕ) (decls : List Decl) (marks : List Directive) → Each UseFits lines → Each DeclFit decls → MarksFit marks → (n : ℕ) (rs : List Row) (ls : List TokenLine) →
       AreLinesOf (head_rows lines host decls marks n rs) ls → HeadAgain lines decls marks rs ls
   head_again lines host decls marks a b c n rs ls h =
-      let k1 : List Row = routines_rows marks n rs in
+      let k1 : List Row = routines_rows marks (next_indent rs) rs in
       let k2 : List Row = decls_rows decls n k1 in
       let u = uses_again file lines a n (own_implicit_rows host n k2) ls h in
       let i = implicit_again file host n k2 u.back u.have in
       let d = decls_again file decls b n k1 i.back i.have in
-      let m = marks_again file marks c n rs d.back d.have in
+      let m = marks_again file marks c (next_indent rs) rs d.back d.have in
       record {
         back = m.back;
         have = m.have;
@@ -96,9 +101,9 @@ module _ (file : ℕ) where
   pub head_stands : (lines : List Use) (host : Option ℕ) (decls : List Decl) (marks : List Directive) → Each UseFits lines → Each DeclFit decls → MarksFit marks → (n : ℕ) (rs : List Row) → n ≤ 40 → AreReadable rs →
       AreReadable (head_rows lines host decls marks n rs)
   head_stands lines host decls marks a b c n rs h r =
-      let k1 : List Row = routines_rows marks n rs in
+      let k1 : List Row = routines_rows marks (next_indent rs) rs in
       let k2 : List Row = decls_rows decls n k1 in
-      uses_stand file lines a n (own_implicit_rows host n k2) h (implicit_stands file host n k2 h (decls_stand file decls b n k1 h (marks_stand file marks c n rs h r)))
+      uses_stand file lines a n (own_implicit_rows host n k2) h (implicit_stands file host n k2 h (decls_stand file decls b n k1 h (marks_stand file marks c (next_indent rs) rs (next_small rs r) r)))
 
   -- UNITS
 
