@@ -88,3 +88,15 @@ each_in_append P (x ∷ xs) ys all = each_in_append P xs ys all.1
 pub each_before_map : {A B : Type 0} (f : A → B) (P : B → Type 0) (xs : List A) → Each (map f xs) P → Each xs (λ x. P (f x))
 each_before_map f P [] all = tt
 each_before_map f P (x ∷ xs) all = (all.0, each_before_map f P xs all.1)
+
+pub each_before_append : {A : Type 0} (P : A → Type 0) (xs ys : List A) → Each (xs ++ ys) P → Each xs P
+each_before_append P [] ys all = tt
+each_before_append P (x ∷ xs) ys all = (all.0, each_before_append P xs ys all.1)
+
+pub each_of_parts : {A B : Type 0} (f : A → List B) (P : B → Type 0) (xs : List A) → Each (flat_map f xs) P → Each xs (λ x. Each (f x) P)
+each_of_parts f P [] all = tt
+each_of_parts f P (x ∷ xs) all = (each_before_append P (f x) (flat_map f xs) all, each_of_parts f P xs (each_in_append P (f x) (flat_map f xs) all))
+
+pub both_of : {A : Type 0} (P Q : A → Type 0) (xs : List A) → Each xs P → Each xs Q → Each xs (λ x. P x × Q x)
+both_of P Q [] a b = tt
+both_of P Q (x ∷ xs) a b = ((a.0, b.0), both_of P Q xs a.1 b.1)

@@ -1,193 +1,108 @@
--- In a sound program each step has the kinds that it needs.
-use Rattle.std.proofs.Common.{◌≡◌, ℤ, List, [], ◌∷◌, Bool, true, false, ◌&&◌, ◌||◌, not, cond, Option, None, Some, refl, sym, ap, subst, ◌∙◌}
+-- In a sound program each expression has a kind, and each step has the kinds that it needs.
+use Rattle.std.proofs.Common.{◌≡◌, ℤ, List, [], ◌∷◌, Bool, true, false, cond, Option, None, Some, refl, sym, ap, subst, ◌∙◌}
 use Rattle.std.proofs.lemmas.Bool.{false≢true}
 use denote.Enum.Bare.{same_true}
 use Rattle.std.specs.Prelude.{flat_map, is_some}
+use Rattle.std.specs.List.{filter}
 use Rattle.fort_arith.specs.contracts.kind.Kind.{the_type as kind_type}
 use Rattle.fort_arith.specs.declared.kind.Kind.{Kind}
 use Rattle.fort_arith.specs.declared.kind.Kind.TheVariants.{I1, I2, I4, I8, Logical}
-use Rattle.fort_arith.specs.declared.op.Op.{Op}
-use Rattle.fort_arith.specs.declared.op.Intrinsic.{Intrinsic}
-use Rattle.fort_arith.specs.declared.op.Intrinsic.TheVariants.{Abs, Int, Max, Min, Mod, Modulo, Sign, Size, Sum}
-use Rattle.fort_arith.specs.Operators.{is_arithmetic, is_relation}
-use Rattle.fort_arith.specs.Range.{is_whole, in_kind}
-use Rattle.fort_tree.specs.Intrinsic.{intrinsic_named}
-use Rattle.fort_tree.specs.Same.{same_kind}
+use Rattle.fort_arith.specs.Range.{is_whole}
 use Rattle.fort_tree.specs.declared.choice.Mode.{Mode}
-use Rattle.fort_tree.specs.declared.expr.Unary.{Unary}
-use Rattle.fort_tree.specs.declared.expr.Unary.TheVariants.{Plus, Minus, Not}
 use Rattle.fort_tree.specs.declared.unit.File.{File}
 use Rattle.claw_meaning.specs.Syntax as plain
 use Rattle.claw_meaning.specs.Syntax.{Text}
 use Rattle.claw_meaning.specs.Scope.{Entity}
-use Rattle.sound_programs.specs.KindFaults.{needs_integer, needs_logical, needs_of_operator, needs_of_sign, second_of_int, first_of_other_kind, differing_kinds, kinds_differ_or_logical, kind_faults_of_intrinsic, kind_faults_of_reference, kind_faults_of_part, actual_differs, kind_of_actual, kind_fault_of_actual, is_case_fault, case_fault, values_of, Numbers, numbers_in, overlap, overlaps, first_value, overlapping, needs_of_left, needs_of_step, kind_faults_in_step, kind_faults_in_scope, kind_faults}
-use Rattle.sound_programs.specs.Kinding.{kind, is_integer, is_logical}
+use Rattle.sound_programs.specs.KindFaults.{kind_faults_of_part, actual_differs, kind_of_actual, kind_fault_of_actual, is_case_fault, case_fault, values_of, Numbers, numbers_in, overlap, overlaps, first_value, overlapping, needs_of_left, needs_of_step, kind_faults_in_step}
+use Rattle.sound_programs.specs.Kinding.{kind, is_integer}
 use Rattle.sound_programs.specs.Laws.{Each, entity_of}
-use Rattle.sound_programs.specs.Placed.{Expr, Numeral, Boolean, Name, Reference, Signed, Binary, Paren, Subscripts, No_more, One, Section, Range, Single, Span, bare_program, first}
+use Rattle.sound_programs.specs.Placed.{Expr, Numeral, Boolean, Name, Reference, Signed, Binary, Paren, Subscripts, No_more, One, Section, Range, Single, Span, Unit, first}
 use Rattle.sound_programs.specs.Placing.{placed}
-use Rattle.sound_programs.specs.Scopes.{Of_unit, scopes, is_array}
+use Rattle.sound_programs.specs.Scopes.{unit_of}
 use Rattle.sound_programs.specs.Sound.{Sound}
-use Rattle.sound_programs.specs.Walks.{Stands, Step, Assigns, Calls, Tests, Chooses, Repeats, Actual, actuals, sites, steps_of, parts_of, single_subscripts, in_head}
-use Rattle.sound_programs.proofs.SoundLaws.{empty_if_nowhere, left_empty, right_empty}
-use Rattle.checked_programs.specs.Fitting.{EachTwo, IsIntegerIfKnown, IsLogicalIfKnown, IsOneIfKnown, CaseFits, HasValue, ShareNoNumber, NamesKind, IsInteger, IsLogical, FitsOperator, FitsSign, AreOfOneKind, ArgumentsFit, SubscriptsFit, PartFits, WholesFit, ActualFits, HasFittingKinds, KindsFit}
-use Rattle.checked_programs.proofs.Empties.{no_head, each_by, each_from, each_empty, not_placed, not_false, then_true, not_none, each_in_append, each_before_map}
-
--- ---- Kinds that are known
-
-known_or : Kind → Option Kind → Kind
-known_or k None = k
-known_or k (Some j) = j
-
-same_known : (j k : Kind) → Some j ≡ Some k → j ≡ k
-unfolding known_or
-same_known j k e = ap (known_or j) e
-
-not_known : {A : Type 0} (k : Kind) → None ≡ Some k → A
-not_known k e = absurd (false≢true (ap is_some e))
-
-integer_if_known : (o : Option Kind) → is_logical o ≡ false → IsIntegerIfKnown o
-integer_if_known None h k e = not_known k e
-integer_if_known (Some I1) h k e = sym (ap is_integer e)
-integer_if_known (Some I2) h k e = sym (ap is_integer e)
-integer_if_known (Some I4) h k e = sym (ap is_integer e)
-integer_if_known (Some I8) h k e = sym (ap is_integer e)
-integer_if_known (Some Logical) h k e = absurd (false≢true (sym h))
-
-logical_if_known : (o : Option Kind) → is_integer o ≡ false → IsLogicalIfKnown o
-logical_if_known None h k e = not_known k e
-logical_if_known (Some I1) h k e = absurd (false≢true (sym h))
-logical_if_known (Some I2) h k e = absurd (false≢true (sym h))
-logical_if_known (Some I4) h k e = absurd (false≢true (sym h))
-logical_if_known (Some I8) h k e = absurd (false≢true (sym h))
-logical_if_known (Some Logical) h k e = sym (same_known Logical k e)
-
--- ---- One kind
-
--- each of the one kind, where its kind is known
-abbrev AllOf : (Text → Entity) → Kind → List Expr → Type 0
-AllOf entity k es = Each es (λ e. (j : Kind) → kind entity e ≡ Some j → k ≡ j)
+use Rattle.sound_programs.specs.Walks.{Stands, Step, Assigns, Calls, Tests, Chooses, Repeats, Site, reference, call_site, is_function_site, sites, Actual, matched, actuals_of, actuals, steps_of, left_of, parts_read, parts_of, read_by, beside, in_subscripts, single_subscripts, in_head}
+use Rattle.sound_programs.proofs.SoundLaws.{left_empty, right_empty}
+use Rattle.sound_programs.proofs.WithinLists.{each_append, each_of_each, each_kept}
+use Rattle.checked_programs.specs.Fitting.{EachTwo, AreOfOneSort, CaseFits, HasValue, ShareNoNumber, HasKind, WholesFit, ActualFits, HasFittingKinds, KindsFit, KindsAreKnown}
+use Rattle.checked_programs.proofs.DeclsKnown.{declarations_known}
+use Rattle.checked_programs.proofs.Empties.{no_head, each_by, each_from, each_empty, not_placed, not_false, then_true, each_in_append, both_of}
+use Rattle.checked_programs.proofs.KindsKnown.{IsSettled, StepIsSettled, all_known}
+use Rattle.checked_programs.proofs.PartsFit.{InsideHasKinds, each_single, each_bound, is_whole_part, is_logical_part, all_whole, part_fits}
 
 module _ (entity : Text → Entity) where
-  two_of_one : (k : Kind) (es : List Expr) → AllOf entity k es → EachTwo (λ a b. IsOneIfKnown (kind entity a) (kind entity b)) es
-  two_of_one k [] all = tt
-  two_of_one k (e ∷ es) all = (each_by es (λ b same i j a h. sym (all.0 i a) ∙ same j h) all.1, two_of_one k es all.1)
-
-  of_this : (k : Kind) (o : Option Kind) → is_integer o && not (same_kind (Some k) o) ≡ false → IsIntegerIfKnown o → (j : Kind) → o ≡ Some j → k ≡ j
-  of_this k None none whole j e = not_known j e
-  of_this k (Some i) none whole j e = same_true kind_type tt k i (then_true _ _ none (whole i refl)) ∙ same_known i j e
-
-  all_of_this : (k : Kind) (es : List Expr) → first_of_other_kind entity (Some k) es ≡ [] → Each es (IsInteger entity) → AllOf entity k es
-  all_of_this k [] none all = tt
-  all_of_this k (e ∷ es) none all = go (all_of_this k es) (is_integer (kind entity e) && not (same_kind (Some k) (kind entity e))) refl
-    where
-      go : (first_of_other_kind entity (Some k) es ≡ [] → Each es (IsInteger entity) → AllOf entity k es)
-          → (b : Bool) → is_integer (kind entity e) && not (same_kind (Some k) (kind entity e)) ≡ b → AllOf entity k (e ∷ es)
-      go rest true h = absurd (no_head (first e) [] (subst (λ b. cond b (first e ∷ []) (first_of_other_kind entity (Some k) es) ≡ []) h none))
-      go rest false h =
-          (of_this k (kind entity e) h all.0, rest (subst (λ b. cond b (first e ∷ []) (first_of_other_kind entity (Some k) es) ≡ []) h none) all.1)
-
-  this_and_others : (e : Expr) (k : Kind) → kind entity e ≡ Some k → (bs : List Expr) → AllOf entity k bs → Each bs (λ b. IsOneIfKnown (kind entity e) (kind entity b))
-  this_and_others e k h bs all = each_by bs (λ b same i j a c. sym (same_known k i (sym h ∙ a)) ∙ same j c) all
-
-  of_one_kind : (es : List Expr) → differing_kinds entity es ≡ [] → Each es (IsInteger entity) → EachTwo (λ a b. IsOneIfKnown (kind entity a) (kind entity b)) es
-  of_one_kind [] none all = tt
-  of_one_kind (e ∷ es) none all = go (of_one_kind es) (kind entity e) refl
-    where
-      go : (differing_kinds entity es ≡ [] → Each es (IsInteger entity) → EachTwo (λ a b. IsOneIfKnown (kind entity a) (kind entity b)) es)
-          → (o : Option Kind) → kind entity e ≡ o → EachTwo (λ a b. IsOneIfKnown (kind entity a) (kind entity b)) (e ∷ es)
-      go rest None h =
-          (each_by es (λ b whole i j a k. not_known i (sym h ∙ a)) all.1, rest (subst (λ o. cond (is_integer o) (first_of_other_kind entity o es) (differing_kinds entity es) ≡ []) h none) all.1)
-      go rest (Some k) h =
-          let others : first_of_other_kind entity (Some k) es ≡ [] =
-          subst (λ b. cond b (first_of_other_kind entity (Some k) es) (differing_kinds entity es) ≡ []) (all.0 k h)
-          (subst (λ o. cond (is_integer o) (first_of_other_kind entity o es) (differing_kinds entity es) ≡ []) h none) in
-          let same : AllOf entity k es = all_of_this k es others all.1 in (this_and_others e k h es same, two_of_one k es same)
-
-  -- ---- Parts
-
-  is_whole_part : (e : Expr) → needs_integer entity e ≡ [] → IsInteger entity e
-  is_whole_part e none = integer_if_known _ (not_placed _ _ none)
-
-  is_logical_part : (e : Expr) → needs_logical entity e ≡ [] → IsLogical entity e
-  is_logical_part e none = logical_if_known _ (not_placed _ _ none)
-
-  all_whole : (es : List Expr) → flat_map (needs_integer entity) es ≡ [] → Each es (IsInteger entity)
-  all_whole es none = each_from (needs_integer entity) es is_whole_part none
-
-  fits_operator : (op : Op) (e : Expr) → needs_of_operator entity op e ≡ [] → FitsOperator entity op e
-  fits_operator op e none = go (is_arithmetic op || is_relation op) none
-    where
-      go : (b : Bool) → cond b (needs_integer entity e) (needs_logical entity e) ≡ [] → (b ≡ true → IsInteger entity e) × (b ≡ false → IsLogical entity e)
-      go true none = ((λ h. is_whole_part e none), λ h. absurd (false≢true (sym h)))
-      go false none = ((λ h. absurd (false≢true h)), λ h. is_logical_part e none)
-
-  fits_sign : (sign : Unary) (e : Expr) → needs_of_sign entity sign e ≡ [] → FitsSign entity sign e
-  fits_sign Plus e none = is_whole_part e none
-  fits_sign Minus e none = is_whole_part e none
-  fits_sign Not e none = is_logical_part e none
-
-  are_of_one_kind : (args : Subscripts) → kinds_differ_or_logical entity args ≡ [] → AreOfOneKind entity (single_subscripts args)
-  are_of_one_kind args none =
-      let whole : Each (single_subscripts args) (IsInteger entity) = all_whole _ (left_empty _ _ none) in
-      (whole, of_one_kind (single_subscripts args) (right_empty _ _ none) whole)
-
-  names_kind : (args : Subscripts) → second_of_int entity args ≡ [] → NamesKind args
-  names_kind No_more none = tt
-  names_kind (One e rest) none = not_none _ (not_placed _ _ none)
-  names_kind (Section lower upper at rest) none = tt
-
-  arguments_fit : (which : Intrinsic) (args : Subscripts) → kind_faults_of_intrinsic entity which args ≡ [] → ArgumentsFit entity which args
-  arguments_fit Size args none = tt
-  arguments_fit Int args none = (
-    all_whole _ (left_empty _ _ none),
-    names_kind _ (right_empty _ _ none),
-  )
-  arguments_fit Sum args none = are_of_one_kind args none
-  arguments_fit Abs args none = are_of_one_kind args none
-  arguments_fit Max args none = are_of_one_kind args none
-  arguments_fit Min args none = are_of_one_kind args none
-  arguments_fit Mod args none = are_of_one_kind args none
-  arguments_fit Modulo args none = are_of_one_kind args none
-  arguments_fit Sign args none = are_of_one_kind args none
-
-  subscripts_fit : (which : Option Intrinsic) (array : Bool) (subs : Subscripts) → kind_faults_of_reference entity which array subs ≡ [] → SubscriptsFit entity which array subs
-  subscripts_fit (Some which) array subs none = arguments_fit which subs none
-  subscripts_fit None true subs none = all_whole _ none
-  subscripts_fit None false subs none = tt
-
-  part_fits : (e : Expr) → kind_faults_of_part entity e ≡ [] → PartFits entity e
-  part_fits (Numeral n suffix at) none = not_false _ (not_placed _ _ none)
-  part_fits (Boolean b at) none = tt
-  part_fits (Name x at) none = tt
-  part_fits (Reference x subs at) none = (
-    subscripts_fit (intrinsic_named x) (is_array (entity x)) subs (left_empty _ _ none),
-    all_whole _ (right_empty _ _ none),
-  )
-  part_fits (Signed sign e at) none = fits_sign sign e none
-  part_fits (Binary op a b) none = (
-    fits_operator op a (left_empty _ _ none),
-    fits_operator op b (right_empty _ _ none),
-  )
-  part_fits (Paren e at) none = tt
-
   -- ---- Actuals
 
-  agrees : (o : Option Expr) (p : Option plain.Decl) → actual_differs entity (kind_of_actual entity o) p ≡ false
-      → (e : Expr) (d : plain.Decl) (k : Kind) → o ≡ Some e → p ≡ Some d → kind entity e ≡ Some k → k ≡ d.kind
-  agrees o p h e d k a b c =
-      same_true kind_type tt k d.kind (not_false _
-      (subst (λ q. actual_differs entity q (Some d) ≡ false) c (subst (λ q. actual_differs entity (kind_of_actual entity (Some e)) q ≡ false) b (subst (λ q. actual_differs entity (kind_of_actual entity q) p ≡ false) a h))))
+  -- where an actual is an expression, it has a kind
+  abbrev ActualHasKind : Actual → Type 0
+  ActualHasKind a = (e : Expr) → a.expr ≡ Some e → HasKind entity e
 
-  actual_fits : (a : Actual) → kind_fault_of_actual entity a ≡ [] → ActualFits entity a
-  actual_fits a none = agrees a.expr a.dummy (not_placed _ _ none)
+  given_known : (a b : Expr) → HasKind entity a → Some a ≡ Some b → HasKind entity b
+  given_known a b h e = subst (λ o. is_some (kind_of_actual entity o) ≡ true) e h
 
-  -- ---- Steps
+  not_given : {A : Type 0} (b : Expr) → None ≡ Some b → A
+  not_given b e = absurd (false≢true (ap is_some e))
 
-  case_fits : (o : Option Kind) (value : Option ℤ) → is_case_fault entity o value ≡ false → CaseFits o value
-  case_fits o None h = absurd (false≢true (sym h))
-  case_fits None (Some n) h = (n, refl, λ k e w. not_known k e)
-  case_fits (Some j) (Some n) h =
-      (n, refl, λ k e w. subst (λ i. in_kind i n ≡ true) (same_known j k e) (then_true _ _ h (subst (λ i. is_whole i ≡ true) (sym (same_known j k e)) w)))
+  all_matched : (dummies : List Text) (decls : List plain.Decl) (args : Subscripts) → Each (in_subscripts args) (HasKind entity) → Each (matched dummies decls args) ActualHasKind
+  all_matched dummies decls args all = go dummies args (each_single (HasKind entity) args all)
+    where
+      go : (xs : List Text) (args : Subscripts) → Each (single_subscripts args) (HasKind entity) → Each (matched xs decls args) ActualHasKind
+      go [] args all = tt
+      go (x ∷ xs) No_more all = tt
+      go (x ∷ xs) (One e rest) all = ((λ b h. given_known e b all.0 h), go xs rest all.1)
+      go (x ∷ xs) (Section lower upper at rest) all = ((λ b h. not_given b h), go xs rest all)
+
+  of_unit : (o : Option plain.Unit) (args : Subscripts) → Each (in_subscripts args) (HasKind entity) → Each (actuals_of o args) ActualHasKind
+  of_unit None args all = tt
+  of_unit (Some v) args all = all_matched v.dummies v.decls args all
+
+  -- the arguments of a reference have kinds
+  abbrev SiteHasKinds : Site → Type 0
+  SiteHasKinds s = Each (in_subscripts s.args) (HasKind entity)
+
+  at_reference : (e : Expr) → InsideHasKinds entity e → Each (reference e) SiteHasKinds
+  at_reference (Reference x subs at) h = (h, tt)
+  at_reference (Numeral n suffix at) h = tt
+  at_reference (Boolean b at) h = tt
+  at_reference (Name x at) h = tt
+  at_reference (Signed sign e at) h = tt
+  at_reference (Binary op a b) h = tt
+  at_reference (Paren e at) h = tt
+
+  at_call : (step : Step) → Each (read_by step) (HasKind entity) → Each (call_site step) SiteHasKinds
+  at_call (Assigns left right) h = tt
+  at_call (Calls name args) h = (h, tt)
+  at_call (Tests e) h = tt
+  at_call (Chooses e ranges) h = tt
+  at_call (Repeats head mark) h = tt
+
+  actuals_known : (step : Step) → StepIsSettled entity step → Each (flat_map (actuals entity) (sites entity step)) ActualHasKind
+  actuals_known step settled =
+      let inside : Each (parts_read step) (IsSettled entity) = each_in_append (IsSettled entity) (left_of step) (parts_read step) settled.inside in
+      let functions : Each (flat_map reference (parts_read step)) SiteHasKinds =
+      each_of_each (IsSettled entity) SiteHasKinds reference (parts_read step) (λ e h. at_reference e h.1) inside in
+      each_of_each SiteHasKinds ActualHasKind (actuals entity) (sites entity step) (λ s h. of_unit (unit_of (entity s.name.name)) s.args h)
+      (each_append SiteHasKinds (call_site step) (filter (is_function_site entity) (flat_map reference (parts_read step))) (at_call step settled.reads)
+      (each_kept SiteHasKinds (is_function_site entity) (flat_map reference (parts_read step)) functions))
+
+  kind_is : (o : Option Kind) (d : plain.Decl) → is_some o ≡ true → actual_differs entity o (Some d) ≡ false → o ≡ Some d.kind
+  kind_is None d known h = absurd (false≢true known)
+  kind_is (Some k) d known h = ap Some (same_true kind_type tt k d.kind (not_false _ h))
+
+  agrees : (o : Option Expr) (p : Option plain.Decl) → actual_differs entity (kind_of_actual entity o) p ≡ false → ((e : Expr) → o ≡ Some e → HasKind entity e)
+      → (e : Expr) (d : plain.Decl) → o ≡ Some e → p ≡ Some d → kind entity e ≡ Some d.kind
+  agrees o p h known e d a b =
+      kind_is (kind entity e) d (known e a)
+      (subst (λ q. actual_differs entity (kind_of_actual entity (Some e)) q ≡ false) b (subst (λ q. actual_differs entity (kind_of_actual entity q) p ≡ false) a h))
+
+  actual_fits : (a : Actual) → (kind_fault_of_actual entity a ≡ []) × ActualHasKind a → ActualFits entity a
+  actual_fits a h = agrees a.expr a.dummy (not_placed _ _ h.0) h.1
+
+  -- ---- Cases
+
+  case_fits : (o : Option Kind) (value : Option ℤ) → is_integer o ≡ true → is_case_fault entity o value ≡ false → CaseFits o value
+  case_fits o None whole h = absurd (false≢true (sym h))
+  case_fits None (Some n) whole h = absurd (false≢true whole)
+  case_fits (Some k) (Some n) whole h = (k, n, refl, refl, then_true _ _ h whole)
 
   kept_apart : (x y : Numbers entity) (b : Range) → cond (overlap entity x y) (first_value entity b) [] ≡ [] → HasValue b → overlap entity x y ≡ false
   kept_apart x y b none has = go (overlap entity x y) none
@@ -213,48 +128,59 @@ module _ (entity : Text → Entity) where
     none_share rest (right_empty _ _ none),
   )
 
-  sorts_agree : (left right : Expr) → needs_of_left entity (kind entity left) right ≡ [] → (j k : Kind) → kind entity left ≡ Some j → kind entity right ≡ Some k → is_whole j ≡ is_whole k
-  sorts_agree left right none j k a b = go j (subst (λ o. needs_of_left entity o right ≡ []) a none)
-    where
-      whole_then : (j : Kind) → is_whole j ≡ true → needs_integer entity right ≡ [] → is_whole j ≡ is_whole k
-      whole_then j h none = h ∙ sym (is_whole_part right none k b)
+  -- ---- Steps
 
-      go : (j : Kind) → needs_of_left entity (Some j) right ≡ [] → is_whole j ≡ is_whole k
-      go I1 none = whole_then I1 refl (left_empty _ _ none)
-      go I2 none = whole_then I2 refl (left_empty _ _ none)
-      go I4 none = whole_then I4 refl (left_empty _ _ none)
-      go I8 none = whole_then I8 refl (left_empty _ _ none)
-      go Logical none = sym (ap is_whole (is_logical_part right none k b))
+  whole_sorts : (j : Kind) (o : Option Kind) → is_whole j ≡ true → is_integer o ≡ true → AreOfOneSort (Some j) o
+  whole_sorts j None h k = absurd (false≢true k)
+  whole_sorts j (Some i) h k = (j, i, refl, refl, h ∙ sym k)
 
-  wholes_fit : (step : Step) → needs_of_step entity step ≡ [] → WholesFit entity step
-  wholes_fit (Assigns left right) none = sorts_agree left right none
-  wholes_fit (Calls name args) none = all_whole _ none
-  wholes_fit (Tests e) none = is_logical_part e none
-  wholes_fit (Chooses e ranges) none =
-      let rest = right_empty _ _ none in (
-        is_whole_part e (left_empty _ _ none),
-        each_from (case_fault entity (kind entity e)) (flat_map (values_of entity) ranges) (λ v h. case_fits _ _ (not_placed _ _ h)) (left_empty _ _ rest),
+  sorts : (o : Option Kind) (right : Expr) → is_some o ≡ true → HasKind entity right → needs_of_left entity o right ≡ [] → AreOfOneSort o (kind entity right)
+  sorts None right known inside none = absurd (false≢true known)
+  sorts (Some I1) right known inside none = whole_sorts I1 _ refl (is_whole_part entity right inside (left_empty _ _ none))
+  sorts (Some I2) right known inside none = whole_sorts I2 _ refl (is_whole_part entity right inside (left_empty _ _ none))
+  sorts (Some I4) right known inside none = whole_sorts I4 _ refl (is_whole_part entity right inside (left_empty _ _ none))
+  sorts (Some I8) right known inside none = whole_sorts I8 _ refl (is_whole_part entity right inside (left_empty _ _ none))
+  sorts (Some Logical) right known inside none = (Logical, Logical, refl, is_logical_part entity right inside none, refl)
+
+  wholes_fit : (step : Step) → StepIsSettled entity step → needs_of_step entity step ≡ [] → WholesFit entity step
+  wholes_fit (Assigns left right) settled none =
+      sorts (kind entity left) right settled.lefts.0 (each_in_append (HasKind entity) (beside left) (right ∷ []) settled.reads).0 none
+  wholes_fit (Calls name args) settled none = all_whole entity _ (each_bound (HasKind entity) args settled.reads) none
+  wholes_fit (Tests e) settled none = is_logical_part entity e settled.reads.0 none
+  wholes_fit (Chooses e ranges) settled none =
+      let rest = right_empty _ _ none in
+      let whole = is_whole_part entity e settled.reads.0 (left_empty _ _ none) in (
+        whole,
+        each_from (case_fault entity (kind entity e)) (flat_map (values_of entity) ranges) (λ v h. case_fits _ _ whole (not_placed _ _ h)) (left_empty _ _ rest),
         none_share ranges (right_empty _ _ rest),
       )
-  wholes_fit (Repeats head mark) none = all_whole (in_head head) none
+  wholes_fit (Repeats head mark) settled none = all_whole entity (in_head head) settled.reads none
 
-  kinds_of_step : (step : Step) → kind_faults_in_step entity step ≡ [] → HasFittingKinds entity step
-  kinds_of_step step none =
+  kinds_of_step : (step : Step) → StepIsSettled entity step → kind_faults_in_step entity step ≡ [] → HasFittingKinds entity step
+  kinds_of_step step settled none =
       let rest = right_empty _ _ none in
       record {
-        wholes = wholes_fit step (left_empty _ _ none);
-        parts = each_from (kind_faults_of_part entity) (parts_of step) part_fits (left_empty _ _ rest);
-        actuals = each_from (kind_fault_of_actual entity) (flat_map (actuals entity) (sites entity step)) actual_fits (right_empty _ _ rest);
+        wholes = wholes_fit step settled (left_empty _ _ none);
+        parts = each_by (parts_of step) (λ e h. part_fits entity e h.0.1 h.1)
+            (both_of _ _ (parts_of step) settled.inside (each_empty (kind_faults_of_part entity) (parts_of step) (left_empty _ _ rest)));
+        actuals = each_by (flat_map (actuals entity) (sites entity step)) actual_fits
+            (both_of _ _ (flat_map (actuals entity) (sites entity step))
+            (each_empty (kind_fault_of_actual entity) (flat_map (actuals entity) (sites entity step)) (right_empty _ _ rest))
+            (actuals_known step settled));
       }
 
 pub kinds_fit : (mode : Mode) (file : File) → Sound mode file → KindsFit file
 kinds_fit mode file sound =
-    let p = placed file in
-    let q = bare_program p in
-    let none : kind_faults p ≡ [] = empty_if_nowhere (kind_faults p) sound.kinds_fit in
-    let in_scopes : Each (scopes p) (λ s. kind_faults_in_scope q s ≡ []) = each_empty (kind_faults_in_scope q) (scopes p) none in
-    let in_units : Each p.units (λ u. kind_faults_in_scope q (Of_unit u) ≡ []) =
-    each_before_map Of_unit (λ s. kind_faults_in_scope q s ≡ []) p.units (each_in_append (λ s. kind_faults_in_scope q s ≡ []) _ _ in_scopes) in
-    each_by p.units (λ u e.
-    each_from (λ (s : Stands). kind_faults_in_step (entity_of file u) s.step) (steps_of u) (λ s h. kinds_of_step (entity_of file u) s.step h)
-    (right_empty _ _ (right_empty _ _ e))) in_units
+    each_by (placed file).units (λ (u : Unit) h. each_by (steps_of u) (λ (s : Stands) k. kinds_of_step (entity_of file u) s.step k.0 k.1) h) (all_known mode file sound)
+
+pub kinds_are_known : (mode : Mode) (file : File) → Sound mode file → KindsAreKnown file
+kinds_are_known mode file sound =
+    let known = all_known mode file sound in
+    record {
+      expressions = each_by (placed file).units (λ (u : Unit) h.
+          each_by (steps_of u) (λ (s : Stands) k. each_append (HasKind (entity_of file u)) (left_of s.step) (read_by s.step) k.0.lefts k.0.reads) h) known;
+      inside = each_by (placed file).units (λ (u : Unit) h.
+          each_by (steps_of u) (λ (s : Stands) k.
+          each_by (parts_of s.step) (λ (e : Expr) (i : IsSettled (entity_of file u) e). i.0) k.0.inside) h) known;
+      declarations = declarations_known mode file sound;
+    }

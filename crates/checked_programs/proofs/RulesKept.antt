@@ -29,7 +29,7 @@ use Rattle.sound_programs.proofs.Chains.{reached_within}
 use Rattle.sound_programs.proofs.SoundLaws.{empty_if_nowhere, left_empty, right_empty, map_empty}
 use Rattle.checked_programs.specs.Fitting.{EachTwo}
 use Rattle.checked_programs.specs.Kept.{HasAllArguments, ArgumentsMatch, AreApart, NoneNames, IsHidden, ActualsAreAlone, WrittenActualsAreAlone, WritesAreAllowed, WritesNoModule, IsPure, IntentsAreKept, KeepsLoopVariables, LoopVariablesStayInside}
-use Rattle.checked_programs.proofs.Empties.{each_by, each_from, each_empty, none_kept, none_where, each_if_kept, not_placed, not_false, other_false, then_true, chosen_empty, not_some, each_in_append, each_before_map}
+use Rattle.checked_programs.proofs.Empties.{each_by, each_from, each_empty, none_kept, none_where, each_if_kept, not_placed, not_false, other_false, then_true, chosen_empty, not_some, each_in_append, each_before_map, both_of}
 
 -- ---- Arguments
 
@@ -138,10 +138,6 @@ in_dummy true false o some none h e = only_in o (left_false (is_none o) some) no
     left_false false h = h
 in_dummy true true o some none h e = absurd (false≢true (sym e))
 in_dummy false p o some none h e = absurd (false≢true h)
-
-both_of : {A : Type 0} (P Q : A → Type 0) (xs : List A) → Each xs P → Each xs Q → Each xs (λ x. P x × Q x)
-both_of P Q [] a b = tt
-both_of P Q (x ∷ xs) a b = ((a.0, b.0), both_of P Q xs a.1 b.1)
 
 is_pure : (file : File) (u : Unit) → dummy_without_intent (Of_unit u) ≡ [] → function_dummies u ≡ [] → function_writes (placed file) (bare_program (placed file)) u ≡ [] → IsTrue (is_some u.result) → IsPure file u
 is_pure file u without dummies writes function =

@@ -1,6 +1,7 @@
--- The kinds and ranks of a sound program: what stands in each of its steps fits where it stands. Of an expression whose kind
--- isn't known nothing is said but its rank.
+-- The kinds and ranks of a sound program: each expression has a kind, and what stands in each of its steps fits where it
+-- stands.
 use Rattle.std.specs.Prelude.{◌≡◌, ℤ, pos, IsTrue, true, false, List, [], ◌∷◌, ◌++◌, length, flat_map, Option, Some, None, ◌||◌, Bool, is_some, nat_lt, ⊤}
+use Rattle.std.specs.Option.{option_to_list}
 use Rattle.fort_arith.specs.declared.kind.Kind.{Kind}
 use Rattle.fort_arith.specs.declared.kind.Kind.TheVariants.{Logical}
 use Rattle.fort_arith.specs.declared.op.Op.{Op}
@@ -17,14 +18,14 @@ use Rattle.claw_meaning.specs.Syntax.{Text}
 use Rattle.claw_meaning.specs.Scope.{Entity}
 use Rattle.claw_meaning.specs.Kinds.{or_default}
 use Rattle.sound_programs.specs.KindFaults.{first_argument, case_value, values_of, numbers_in, overlap}
-use Rattle.sound_programs.specs.Kinding.{kind, kind_named_by}
+use Rattle.sound_programs.specs.Kinding.{kind, is_integer, kind_named_by}
 use Rattle.sound_programs.specs.Laws.{Each, entity_of}
-use Rattle.sound_programs.specs.Placed.{Expr, Numeral, Boolean, Name, Reference, Signed, Binary, Paren, Subscripts, No_more, One, Section, Range, Single, Span, Unit, after_first}
+use Rattle.sound_programs.specs.Placed.{Expr, Numeral, Boolean, Name, Reference, Signed, Binary, Paren, Subscripts, No_more, One, Section, Decl, Range, Single, Span, Unit, after_first, bare_program}
 use Rattle.sound_programs.specs.Placing.{placed}
 use Rattle.sound_programs.specs.RankFaults.{takes_sections, is_used_well, own_lists, is_array_reference}
 use Rattle.sound_programs.specs.Ranking.{Operand, operands, rank, rank_of_first, rank_of_entity}
-use Rattle.sound_programs.specs.Scopes.{is_array}
-use Rattle.sound_programs.specs.Walks.{Stands, Step, Assigns, Calls, Tests, Chooses, Repeats, Actual, actuals, sites, steps_of, parts_of, single_subscripts, section_bounds, section_places, count_of, in_head}
+use Rattle.sound_programs.specs.Scopes.{scopes, decls_of, entity_in, is_array}
+use Rattle.sound_programs.specs.Walks.{Stands, Step, Assigns, Calls, Tests, Chooses, Repeats, Actual, actuals, sites, steps_of, left_of, read_by, parts, parts_of, bounds_in, single_subscripts, section_bounds, section_places, count_of, in_head}
 
 -- of each two of a list
 abbrev pub EachTwo : {A : Type 0} → (A → A → Type 0) → List A → Type 0
@@ -37,18 +38,13 @@ EachStep file P = Each (placed file).units (λ u. Each (steps_of u) (λ s. P (en
 
 -- Kinds
 
-abbrev pub IsIntegerIfKnown : Option Kind → Type 0
-IsIntegerIfKnown o = (k : Kind) → o ≡ Some k → IsTrue (is_whole k)
-
-abbrev pub IsLogicalIfKnown : Option Kind → Type 0
-IsLogicalIfKnown o = (k : Kind) → o ≡ Some k → k ≡ Logical
-
-abbrev pub IsOneIfKnown : Option Kind → Option Kind → Type 0
-IsOneIfKnown a b = (j k : Kind) → a ≡ Some j → b ≡ Some k → j ≡ k
+-- both INTEGER or both LOGICAL
+abbrev pub AreOfOneSort : Option Kind → Option Kind → Type 0
+AreOfOneSort a b = (j : Kind) × (k : Kind) × (a ≡ Some j) × (b ≡ Some k) × (is_whole j ≡ is_whole k)
 
 -- the value of a case is a number, and lies in the kind of the SELECT's expression
 abbrev pub CaseFits : Option Kind → Option ℤ → Type 0
-CaseFits o value = (n : ℤ) × (value ≡ Some n) × ((k : Kind) → o ≡ Some k → IsTrue (is_whole k) → IsTrue (in_kind k n))
+CaseFits o value = (k : Kind) × (n : ℤ) × (o ≡ Some k) × (value ≡ Some n) × IsTrue (in_kind k n)
 
 -- a range of a case in which some value is written
 abbrev pub HasValue : Range → Type 0
@@ -64,11 +60,15 @@ NamesKind (One e rest) = IsTrue (is_some (kind_named_by e))
 NamesKind (Section lower upper at rest) = ⊤
 
 module _ (entity : Text → Entity) where
+  -- no fault leaves its kind open
+  abbrev pub HasKind : Expr → Type 0
+  HasKind e = IsTrue (is_some (kind entity e))
+
   abbrev pub IsInteger : Expr → Type 0
-  IsInteger e = IsIntegerIfKnown (kind entity e)
+  IsInteger e = IsTrue (is_integer (kind entity e))
 
   abbrev pub IsLogical : Expr → Type 0
-  IsLogical e = IsLogicalIfKnown (kind entity e)
+  IsLogical e = kind entity e ≡ Some Logical
 
   -- an operand of arithmetic or of a relation is INTEGER, one of a logical operation LOGICAL
   abbrev pub FitsOperator : Op → Expr → Type 0
@@ -82,7 +82,7 @@ module _ (entity : Text → Entity) where
 
   -- INTEGER, and of one kind
   abbrev pub AreOfOneKind : List Expr → Type 0
-  AreOfOneKind args = Each args IsInteger × EachTwo (λ a b. IsOneIfKnown (kind entity a) (kind entity b)) args
+  AreOfOneKind args = Each args IsInteger × EachTwo (λ a b. kind entity a ≡ kind entity b) args
 
   abbrev pub ArgumentsFit : Intrinsic → Subscripts → Type 0
   ArgumentsFit Size args = ⊤
@@ -118,7 +118,7 @@ module _ (entity : Text → Entity) where
   -- What a step takes: a test is LOGICAL, the expression of a SELECT, the three of a DO and the bounds of sections INTEGER, and a
   -- value is assigned to a variable of its own sort.
   abbrev pub WholesFit : Step → Type 0
-  WholesFit (Assigns left right) = (j k : Kind) → kind entity left ≡ Some j → kind entity right ≡ Some k → is_whole j ≡ is_whole k
+  WholesFit (Assigns left right) = AreOfOneSort (kind entity left) (kind entity right)
   WholesFit (Calls name args) = Each (section_bounds args) IsInteger
   WholesFit (Tests e) = IsLogical e
   WholesFit (Chooses e ranges) =
@@ -127,7 +127,7 @@ module _ (entity : Text → Entity) where
 
   -- an actual is of its dummy's kind
   abbrev pub ActualFits : Actual → Type 0
-  ActualFits a = (e : Expr) (d : plain.Decl) (k : Kind) → a.expr ≡ Some e → a.dummy ≡ Some d → kind entity e ≡ Some k → k ≡ d.kind
+  ActualFits a = (e : Expr) (d : plain.Decl) → a.expr ≡ Some e → a.dummy ≡ Some d → kind entity e ≡ Some d.kind
 
   pub record HasFittingKinds (step : Step) : Type 0 where
     pub wholes : WholesFit step
@@ -137,6 +137,17 @@ module _ (entity : Text → Entity) where
 -- the kinds in all steps of a program
 abbrev pub KindsFit : File → Type 0
 KindsFit file = EachStep file (λ entity u s. HasFittingKinds entity s.step)
+
+-- the bounds of declarations, and the values of PARAMETERs
+abbrev pub in_decls : List Decl → List Expr
+in_decls decls = bounds_in decls ++ flat_map (λ d. option_to_list d.value) decls
+
+-- Each expression in a step has a kind: the left side of an assignment, whatever is read, and each part of it. So have the
+-- bounds and values of the declarations of each unit and module, and each part of them.
+pub record KindsAreKnown (file : File) : Type 0 where
+  pub expressions : EachStep file (λ entity u s. Each (left_of s.step ++ read_by s.step) (HasKind entity))
+  pub inside : EachStep file (λ entity u s. Each (parts_of s.step) (HasKind entity))
+  pub declarations : Each (scopes (placed file)) (λ s. Each (flat_map parts (in_decls (decls_of s))) (HasKind (entity_in (bare_program (placed file)) s)))
 
 -- Ranks
 

@@ -3,8 +3,14 @@
 ghost use Rattle.fort_tree.specs.declared.choice.Mode.{Mode};
 ghost use Rattle.fort_tree.specs.declared.unit.File.{File};
 ghost use Rattle.sound_programs.specs.Sound.{Sound};
-ghost use Rattle.checked_programs.specs.Fitting.{KindsFit, RanksFit};
+ghost use Rattle.checked_programs.specs.Fitting.{KindsAreKnown, KindsFit, RanksFit};
 ghost use Rattle.checked_programs.specs.Kept.{ArgumentsMatch, IntentsAreKept, LoopVariablesStayInside, WrittenActualsAreAlone};
+
+/// Each expression in a step of a sound program has a kind, and so has each in a bound or a value of a declaration, with all their
+/// parts: what leaves a kind open is a fault.
+pub fn kinds_are_known()
+    ensures { (mode : Mode) (file : File) → Sound mode file → KindsAreKnown file }
+{}
 
 /// In each step of a sound program operands, tests, subscripts and actual arguments have the kinds and ranks that are needed.
 pub fn operands_fit()

@@ -4,10 +4,12 @@
 mod checked;
 mod checking;
 mod laws;
+#[cfg(test)]
+mod tests;
 
 pub use checked::{Checked, Refused};
 pub use checking::check;
 pub use laws::{
-    arguments_match, intents_are_kept, loop_variables_stay_inside, operands_fit,
+    arguments_match, intents_are_kept, kinds_are_known, loop_variables_stay_inside, operands_fit,
     written_actuals_are_alone,
 };
