@@ -10,7 +10,7 @@ use crate::bounds::{has_dimension, has_shared_bounds};
 use crate::dummies::only_reads_shared;
 use crate::lists::{lists_dummies, places_dimension};
 use crate::returns::never_return;
-use fort_names::Symbols;
+use fort_names::{At, Symbols};
 use fort_tree::{File, NoMemory, Place, Unit};
 use plain_units::is_column_unit;
 use scalar_units::note_unless;
@@ -36,12 +36,12 @@ fn has_dimension_at(file: &File, symbols: &Symbols, number: usize, unit: &Unit) 
     has_dimension(file, &sight, unit)
 }
 
-fn writes_no_module(file: &File, writing: &[bool], number: usize, unit: &Unit) -> bool
-    requires writing { AreWriting file.now writing.now }
+fn writes_no_module(file: &File, writes: &[Option<At>], number: usize, unit: &Unit) -> bool
+    requires writes { AreWriting file.now writes.now }
     requires there { slice_get file.now.units number ≡ Some unit.now }
     ensures { result ≡ rules.writes_no_module file.now unit.now }
 {
-    !writing[number]
+    writes[number].is_none()
 }
 
 #[tactic(auto, unfolding(crate::specs::Rules::keeps_rules))]
@@ -49,18 +49,18 @@ fn keeps_rules(
     alloc: Global,
     file: &File,
     symbols: &Symbols,
-    writing: &[bool],
+    writes: &[Option<At>],
     number: usize,
     unit: &Unit,
 ) -> Result<bool, NoMemory>
     requires symbols { AreSymbolsOf file.now symbols.now }
-    requires writing { AreWriting file.now writing.now }
+    requires writes { AreWriting file.now writes.now }
     requires there { slice_get file.now.units number ≡ Some unit.now }
     ensures { IfOk result (λ keeps. keeps ≡ rules.keeps_rules file.now unit.now) }
 {
     let shared = has_shared_bounds(alloc, unit)?;
     let own = keeps_own(unit);
-    let unwritten = writes_no_module(file, writing, number, unit);
+    let unwritten = writes_no_module(file, writes, number, unit);
     let dimension = has_dimension_at(file, symbols, number, unit);
     Ok(own && unwritten && dimension && shared)
 }
@@ -71,16 +71,16 @@ fn note_unit(
     least: Option<Place>,
     file: &File,
     symbols: &Symbols,
-    writing: &[bool],
+    writes: &[Option<At>],
     number: usize,
     unit: &Unit,
 ) -> Result<Option<Place>, NoMemory>
     requires symbols { AreSymbolsOf file.now symbols.now }
-    requires writing { AreWriting file.now writing.now }
+    requires writes { AreWriting file.now writes.now }
     requires there { slice_get file.now.units number ≡ Some unit.now }
     ensures { IfOk result (λ first. first ≡ noted (rules.of_unit file.now unit.now) least) }
 {
-    let keeps = keeps_rules(alloc, file, symbols, writing, number, unit)?;
+    let keeps = keeps_rules(alloc, file, symbols, writes, number, unit)?;
     Ok(note_unless(least, !is_column_unit(unit) || keeps, unit.at))
 }
 
@@ -88,17 +88,17 @@ fn note_units(
     alloc: Global,
     file: &File,
     symbols: &Symbols,
-    writing: &[bool],
+    writes: &[Option<At>],
     units: &[Unit],
 ) -> Result<Option<Place>, NoMemory>
     requires symbols { AreSymbolsOf file.now symbols.now }
-    requires writing { AreWriting file.now writing.now }
+    requires writes { AreWriting file.now writes.now }
     requires units { units.now ≡ file.now.units }
     ensures { IfOk result (λ first. first ≡ noted (flat_map (rules.of_unit file.now) units.now) None) }
 {
     let mut least = None;
     for (number, unit) in units.iter().enumerate() {
-        least = note_unit(alloc, least, file, symbols, writing, number, unit)?;
+        least = note_unit(alloc, least, file, symbols, writes, number, unit)?;
     }
     Ok(least)
 }
@@ -112,12 +112,12 @@ pub fn first_of(
     alloc: Global,
     file: &File,
     symbols: &Symbols,
-    writing: &[bool],
+    writes: &[Option<At>],
 ) -> Result<Option<Place>, NoMemory>
     requires symbols { AreSymbolsOf file.now symbols.now }
-    requires writing { AreWriting file.now writing.now }
+    requires writes { AreWriting file.now writes.now }
     ensures { IfOk result (λ first. MatchOption first (rules.broken file.now ≡ []) (λ at. IsFirst at (rules.broken file.now))) }
 {
-    let first = note_units(alloc, file, symbols, writing, file.units.items())?;
+    let first = note_units(alloc, file, symbols, writes, file.units.items())?;
     Ok(first)
 }
