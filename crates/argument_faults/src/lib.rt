@@ -17,3 +17,4 @@ mod writes;
 mod writes_reached;
 
 pub use file_faults::{note_aliases, note_writes};
+pub use writes_reached::writes_reached;
