@@ -14,7 +14,7 @@ ghost use Rattle.argument_faults.specs.Reaching.{AreWrittenFrom, IsReached, faul
 use crate::reached::{Reached, reached_by};
 use crate::unit_faults::note_unit_aliases;
 use crate::writes::{note_function_dummies, note_unit_writes};
-use crate::writes_reached::{note_write, write_at, writes_reached};
+use crate::written_from::{note_write, write_at, writes_reached};
 use call_graph::Graph;
 use fort_names::{At, Least, Symbols};
 use fort_tree::{File, NoMemory, Unit};

@@ -14,7 +14,7 @@ mod tests;
 mod unit_faults;
 mod variable_set;
 mod writes;
-mod writes_reached;
+mod written_from;
 
 pub use file_faults::{note_aliases, note_writes};
-pub use writes_reached::writes_reached;
+pub use written_from::writes_reached;

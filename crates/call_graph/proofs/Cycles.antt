@@ -3,15 +3,14 @@ use Rattle.std.proofs.Common.{◌≡◌, ℕ, zero, suc, ◌+◌, ◌<◌, ◌�
 use Rattle.std.specs.List.{list_any}
 use Rattle.std.proofs.lemmas.Bool.{false≢true}
 use Rattle.fort_tree.specs.declared.place.Place.{Place}
-use Rattle.numbered_graph.specs.Graphs.{row, stands, Way, here, onwards, LeadsToCycle, has_chain, IsGraph}
+use Rattle.numbered_graph.specs.Graphs.{row, stands, Way, LeadsToCycle, has_chain, IsGraph}
 use Rattle.numbered_graph.specs.Deepness.{depth_at}
-use Rattle.numbered_graph.proofs.Ways.{joined}
 use Rattle.numbered_graph.proofs.Times.{itself}
 use Rattle.sound_programs.specs.CallFaults.{link_of}
 use Rattle.sound_programs.specs.Links.{is_on_cycle, begins_chain, leads_to_cycle}
 use Rattle.call_graph.specs.declared.calls.Calls.{Calls}
 use Rattle.call_graph.specs.declared.reference.Reference.{Reference}
-use Rattle.call_graph.specs.Calling.{AreCalls, LiesOnNone, links_of, is_recursive, recursive_places, all_recursive, is_deep}
+use Rattle.call_graph.specs.Calling.{AreCalls, links_of, is_recursive, recursive_places, all_recursive, is_deep}
 use Rattle.call_graph.specs.Earliest.{earliest}
 use Rattle.call_graph.specs.Referring.{unit_names, name_at, numbers, listed, callees_of, AreWithin}
 use Rattle.call_graph.proofs.Earliests.{earliest_append}
@@ -101,33 +100,6 @@ module _ (c : Calls) (are : AreCalls c) where
 
     pub recursive_is : (b : Bool) → IsTrue b ↔ Way c.callees.items r.unit unit → b ≡ is_recursive c unit r
     recursive_is b both = same_bool b (is_recursive c unit r) (λ e. recursive_if_way (both.0 e)) (λ e. both.1 (way_if_recursive e))
-
-    -- a reference from what lies on no cycle, or to it, lies on none
-    not_through_unit : LiesOnNone c.callees.items unit → is_recursive c unit r ≡ true → ⊥
-    not_through_unit off e = off.none r.unit link (way_if_recursive e)
-
-    back_to_callee : LiesOnNone c.callees.items r.unit → Way c.callees.items r.unit unit → ⊥
-    back_to_callee off way = go way link (λ y first rest. off.none y first (joined c.callees.items rest (onwards link here))) (λ same. off.none r.unit same here)
-      where
-        go : {a b : ℕ} → Way c.callees.items a b → stands a (row c.callees.items b) ≡ true → ((y : ℕ) → stands y (row c.callees.items a) ≡ true → Way c.callees.items y b → ⊥) → (stands a (row c.callees.items a) ≡ true → ⊥) → ⊥
-        go here around longer self = self around
-        go (onwards {y = y} first rest) around longer self = longer y first rest
-
-    never : (b : Bool) → (b ≡ true → ⊥) → false ≡ b
-    never false off = refl
-    never true off = absurd (off refl)
-
-    pub off_at_unit : LiesOnNone c.callees.items unit → false ≡ is_recursive c unit r
-    off_at_unit off = never (is_recursive c unit r) (not_through_unit off)
-
-    pub off_at_callee : LiesOnNone c.callees.items r.unit → false ≡ is_recursive c unit r
-    off_at_callee off = never (is_recursive c unit r) (λ e. back_to_callee off (way_if_recursive e))
-
-  -- what has a depth lies on no cycle
-  pub off_by_depth : (x d : ℕ) → depth_at c.depths.items x ≡ Some d → LiesOnNone c.callees.items x
-  off_by_depth x d e = record {
-    none = λ y first way. are.order.none_on_cycle x (sym (are.depths.ordered x) ∙ ap is_some e) (record { from = x; to = y; way = here; link = first; back = way });
-  }
 
   -- ---- calls that are too deep
 

@@ -6,3 +6,4 @@ pub mod Added
 pub mod Differing
 pub mod Noting
 pub mod Graphing
+pub mod Rooting

@@ -3,31 +3,24 @@ use Rattle.std.specs.Prelude.{◌≡◌, ℕ, ◌+◌, Bool, true, ◌&&◌, not
 use Rattle.std.specs.List.{filter}
 use Rattle.fort_tree.specs.declared.place.Place.{Place}
 use Rattle.claw_meaning.specs.Syntax.{Text}
-use Rattle.numbered_graph.specs.Graphs.{Rows, row, stands, Way, IsOrder}
-use Rattle.numbered_graph.specs.Deepness.{depth_at, AreDepths}
+use Rattle.numbered_graph.specs.Graphs.{IsOrder}
+use Rattle.numbered_graph.specs.Deepness.{AreDepths}
 use Rattle.sound_programs.specs.CallFaults.{link_of}
 use Rattle.sound_programs.specs.Links.{Links, is_on_cycle, begins_chain, leads_to_cycle}
 use Rattle.sound_programs.specs.Places.{is_earlier}
 use Rattle.call_graph.specs.declared.calls.Calls.{Calls}
 use Rattle.call_graph.specs.declared.reference.Reference.{Reference}
+use Rattle.call_graph.specs.Grouping.{AreGroups}
 use Rattle.call_graph.specs.Referring.{unit_names, name_at, as_referral, listed, callees_of, NamesDiffer, AreReferencesOf}
 
--- no link of the point lies on a cycle
-pub record LiesOnNone (rows : Rows) (x : ℕ) : Type 0 where
-  pub none : (y : ℕ) → stands y (row rows x) ≡ true → Way rows y x → ⊥
-
--- what has a height lies on no cycle
-pub record AreHeights (rows : Rows) (heights : List (Option ℕ)) : Type 0 where
-  pub off : (x d : ℕ) → depth_at heights x ≡ Some d → LiesOnNone rows x
-
--- What is known of the calls: which they are, their graph, its order and its depths, of which those above 64 are 65.
+-- What is known of the calls: which they are, their graph, its order, its depths, of which those above 64 are 65, and its groups.
 pub record AreCalls (c : Calls) : Type 0 where
   pub differ : NamesDiffer (unit_names c.file.now)
   pub references : AreReferencesOf c.file.now c.references.items
   pub callees : c.callees.items ≡ callees_of c.references.items
   pub order : IsOrder c.callees.items c.order.items
   pub depths : AreDepths c.callees.items c.order.items 65 c.depths.items
-  pub heights : AreHeights c.callees.items c.heights.items
+  pub groups : AreGroups c.callees.items c.groups
 
 -- the links of the names
 unfoldable pub links_of : Calls → Links

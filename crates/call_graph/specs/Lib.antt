@@ -3,3 +3,4 @@ pub mod Earliest
 pub mod Calling
 pub mod Adding
 pub mod CallGraphs
+pub mod Grouping

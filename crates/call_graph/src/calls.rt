@@ -3,10 +3,11 @@ ghost use Rattle.std.specs.Prelude.{◌≡◌, [], IfOk};
 ghost use Rattle.fort_names.specs.Scoping.{AreSymbolsOf};
 ghost use Rattle.sound_programs.specs.Faults.{faults_of_names};
 ghost use Rattle.sound_programs.specs.Placing.{placed};
-ghost use Rattle.numbered_graph.specs.Graphs.{each_once, IsGraph, IsReverse};
-ghost use Rattle.call_graph.specs.Calling.{AreCalls, AreHeights};
+ghost use Rattle.numbered_graph.specs.Graphs.{each_once};
+ghost use Rattle.call_graph.specs.Calling.{AreCalls};
 ghost use Rattle.call_graph.specs.Referring.{callees_of as callees_by, numbers};
 
+use crate::groups::Groups;
 use crate::reference::Reference;
 use crate::references::references_of;
 use fort_names::Symbols;
@@ -18,8 +19,8 @@ use std::alloc::Global;
 pub const TOO_DEEP: usize = 65;
 
 /// The references of each unit, the units to which it refers, and an order of those that lead to no cycle. The depth of a unit
-/// is how long a chain of calls begins there, where that leads to no cycle; its height how long a chain ends there, where no
-/// cycle leads to it. All above 64 are 65.
+/// is how long a chain of calls begins there, where that leads to no cycle. All above 64 are 65. Units that refer to one another,
+/// directly or indirectly, are one group.
 #[derive(Drop)]
 pub struct Calls<'a> {
     pub file: &'a File,
@@ -27,7 +28,7 @@ pub struct Calls<'a> {
     pub callees: Vec<Row>,
     pub order: Vec<usize>,
     pub depths: Vec<Option<usize>>,
-    pub heights: Vec<Option<usize>>,
+    pub groups: Groups,
 }
 
 fn numbers_of(alloc: Global, references: &[Reference]) -> Result<Vec<usize>, NoMemory>
@@ -57,20 +58,6 @@ fn callees_of(alloc: Global, references: &[Seq<Reference>]) -> Result<Vec<Row>, 
     Ok(rows)
 }
 
-/// The heights of units. What has one lies on no cycle.
-fn heights_of(
-    alloc: Global,
-    callees: &[Row],
-    callers: &[Row],
-) -> Result<Vec<Option<usize>>, NoMemory>
-    requires graph { IsGraph callees.now }
-    requires reverse { IsReverse callees.now callers.now }
-    ensures { IfOk result (λ heights. AreHeights callees.now heights.items) }
-{
-    let order = peel(alloc, callers, callees)?;
-    Ok(depths(alloc, callers, order.as_slice(), TOO_DEEP)?)
-}
-
 /// The calls of a file.
 ///
 /// # Errors
@@ -86,13 +73,13 @@ pub fn calls_of<'a>(alloc: Global, file: &'a File, symbols: &Symbols) -> Result<
     let callers = reversed(alloc, callees.as_slice())?;
     let order = peel(alloc, callees.as_slice(), callers.as_slice())?;
     let depth_list = depths(alloc, callees.as_slice(), order.as_slice(), TOO_DEEP)?;
-    let height_list = heights_of(alloc, callees.as_slice(), callers.as_slice())?;
+    let groups = Groups::of(alloc, callees.as_slice(), callers.as_slice())?;
     Ok(Calls {
         file,
         references,
         callees,
         order,
         depths: depth_list,
-        heights: height_list,
+        groups,
     })
 }

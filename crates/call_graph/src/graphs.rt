@@ -43,11 +43,11 @@ impl<'a> Calls<'a> {
             callees,
             order,
             depths,
-            heights,
+            groups,
         } = self;
         drop(references);
         drop(depths);
-        drop(heights);
+        drop(groups);
         Graph { order, callees }
     }
 }

@@ -4,10 +4,13 @@
 mod calls;
 mod faults;
 mod graphs;
+mod groups;
 mod reference;
 mod references;
+mod roots;
 mod search;
 #[cfg(test)]
 mod tests;
+mod walk;
 
 pub use graphs::{Graph, graph_of};

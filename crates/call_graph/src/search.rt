@@ -2,7 +2,7 @@
 ghost use Rattle.std.specs.Prelude.{◌≡◌, ◌<◌, ◌++◌, ◌&&◌, [], IfOk, None, Some, true, false, length, map, slice_index_or};
 ghost use Rattle.fort_names.specs.Leasts.{places_at};
 ghost use Rattle.numbered_graph.specs.Graphs.{stands};
-ghost use Rattle.call_graph.specs.Calling.{AreCalls, LiesOnNone, is_first as is_first_of, is_recursive as recursive, recursive_places, all_recursive, is_deep, links_of};
+ghost use Rattle.call_graph.specs.Calling.{AreCalls, is_first as is_first_of, is_recursive as recursive, recursive_places, all_recursive, is_deep, links_of};
 ghost use Rattle.call_graph.specs.Earliest.{earliest};
 ghost use Rattle.call_graph.specs.Referring.{numbers, name_at, unit_names};
 
@@ -10,7 +10,7 @@ use crate::calls::{Calls, TOO_DEEP};
 use crate::reference::Reference;
 use fort_names::is_earlier;
 use fort_tree::{NoMemory, Place};
-use numbered_graph::{depth_of, leads};
+use numbered_graph::depth_of;
 use std::alloc::Global;
 
 fn is_first(at: Place, first: Option<Place>) -> bool
@@ -20,17 +20,6 @@ fn is_first(at: Place, first: Option<Place>) -> bool
         None => true,
         Some(first) => is_earlier(at, first),
     }
-}
-
-/// Whether the unit leads to a cycle and a cycle leads to it. What lies on a cycle does so.
-fn is_between_cycles(calls: &Calls<'_>, unit: usize) -> bool
-    requires { AreCalls calls.now }
-    ensures { result ≡ false → LiesOnNone calls.now.callees.items unit }
-{
-    if depth_of(calls.depths.as_slice(), unit).is_some() {
-        return false;
-    }
-    depth_of(calls.heights.as_slice(), unit).is_none()
 }
 
 /// Whether a reference in the unit lies on a cycle.
@@ -44,13 +33,8 @@ fn is_recursive(
     requires there { stands reference.unit (numbers (slice_index_or calls.now.references.items unit [])) ≡ true }
     ensures { IfOk result (λ on_cycle. on_cycle ≡ recursive calls.now unit reference) }
 {
-    if !is_between_cycles(calls, unit) {
-        return Ok(false);
-    }
-    if !is_between_cycles(calls, reference.unit) {
-        return Ok(false);
-    }
-    Ok(leads(alloc, calls.callees.as_slice(), reference.unit, unit)?)
+    let callees = calls.callees.as_slice();
+    Ok(calls.groups.lead(alloc, callees, reference.unit, unit)?)
 }
 
 /// The first so far, or an earlier reference of the unit that lies on a cycle.

@@ -1,5 +1,5 @@
 //! All rules, and the units that break one.
-ghost use Rattle.std.specs.Prelude.{◌≡◌, [], None, Some, flat_map, slice_get, MatchOption, IfOk};
+ghost use Rattle.std.specs.Prelude.{◌≡◌, ◌<◌, [], None, Some, flat_map, is_none as is_none_test, length, slice_get, slice_index_or, MatchOption, IfOk};
 ghost use Rattle.claw_meaning.specs.Plain.{plain_unit};
 ghost use Rattle.fort_names.specs.Scoping.{AreSymbolsOf};
 ghost use Rattle.scalar_units.specs.Unbuilt.{IsFirst, noted};
@@ -36,12 +36,28 @@ fn has_dimension_at(file: &File, symbols: &Symbols, number: usize, unit: &Unit) 
     has_dimension(file, &sight, unit)
 }
 
+fn is_none(write: Option<At>) -> bool
+    ensures { result ≡ is_none_test write }
+{
+    match write {
+        None => true,
+        Some(_) => false,
+    }
+}
+
+fn write_at(writes: &[Option<At>], number: usize) -> Option<At>
+    requires { number < length writes.now }
+    ensures { result ≡ slice_index_or writes.now number None }
+{
+    writes[number]
+}
+
 fn writes_no_module(file: &File, writes: &[Option<At>], number: usize, unit: &Unit) -> bool
     requires writes { AreWriting file.now writes.now }
     requires there { slice_get file.now.units number ≡ Some unit.now }
     ensures { result ≡ rules.writes_no_module file.now unit.now }
 {
-    writes[number].is_none()
+    is_none(write_at(writes, number))
 }
 
 #[tactic(auto, unfolding(crate::specs::Rules::keeps_rules))]

@@ -1,11 +1,12 @@
-//! Prints how small sources are read: for each its number, and the report of its first fault of text or syntax, or the number of its units. Each line of
-//! `data/texts` is a `|` and one source, in which `\n`, `\r`, `\t`, `\\` and `\xHH` stand for a byte. What it has to print stands in `stdout`; those lines come from a
-//! model of the language's rules that was written apart from the compiler, and none from the compiler's own output.
+//! Prints how small texts are read: for each its number, and the report of its first fault of text or syntax, or the number of its units, a `|` and the text that the
+//! printer writes for the program that was read, with `\n` for each line feed. Each line of `data/texts` is a `|` and one source, or a `>` and one made text, in which `\n`, `\r`,
+//! `\t`, `\\` and `\xHH` stand for a byte. What it has to print stands in `stdout`; those lines come from models of the language's rules and of the layout that were
+//! written apart from the compiler, and none from the compiler's own output.
 #![tactic(auto)]
 
 use fort_lex::lines;
-use fort_spell::report;
-use fort_tree::{Fault, Line, Mode, Seq, Stop};
+use fort_spell::{report, spell};
+use fort_tree::{Fault, File, Line, Mode, Seq, Stop};
 use fort_units::file;
 use outside::{DirShelf, FileList, MemSink, Numbers, Shelf};
 use std::alloc::{AllocError, Global};
@@ -14,7 +15,7 @@ use std::io;
 const MOST_BYTES: usize = 4194304;
 
 // The most bytes that a run may put.
-const ROOM: u64 = 1000;
+const ROOM: u64 = 100000;
 
 const NAME: &str = "a.f90";
 
@@ -81,6 +82,17 @@ fn print_flat(rt: &HostRuntime, text: &[u8]) -> io::Result<()> {
     Ok(())
 }
 
+/// Prints a text with `\n` for each line end.
+fn print_escaped(rt: &HostRuntime, text: &[u8]) -> io::Result<()> {
+    for byte in text {
+        match *byte {
+            b'\n' => print!(rt; "\\n")?,
+            _ => print!(rt; "{}", *byte as char)?,
+        }
+    }
+    Ok(())
+}
+
 fn print_fault(rt: &HostRuntime, fault: &Fault) -> io::Result<()> {
     let files = listed(rt.alloc())?;
     let mut put = sink(rt.alloc())?;
@@ -98,31 +110,49 @@ fn print_stop(rt: &HostRuntime, stop: Stop) -> io::Result<()> {
     }
 }
 
+/// Prints the number of a program's units, a `|` and its text as the printer writes it.
+fn print_spelling(rt: &HostRuntime, program: &File) -> io::Result<()> {
+    let mut put = sink(rt.alloc())?;
+    if spell(program, &mut put).is_err() {
+        return print!(rt; "no room");
+    }
+    print!(rt; "units {}|", program.units.len())?;
+    print_escaped(rt, put.text())
+}
+
 fn print_program(rt: &HostRuntime, all: &Seq<Line>) -> io::Result<()> {
     if all.len() > MOST_BYTES {
         return print!(rt; "too long");
     }
     match file(rt.alloc(), all) {
-        Ok(program) => print!(rt; "units {}", program.units.len()),
+        Ok(program) => print_spelling(rt, &program),
         Err(stop) => print_stop(rt, stop),
     }
 }
 
-fn print_reading(rt: &HostRuntime, text: &[u8]) -> io::Result<()> {
+fn print_reading(rt: &HostRuntime, mode: Mode, text: &[u8]) -> io::Result<()> {
     if text.len() > MOST_BYTES {
         return print!(rt; "too long");
     }
     let mut all = Seq::new(rt.alloc());
-    match lines(rt.alloc(), 0, text, Mode::Source, &mut all) {
+    match lines(rt.alloc(), 0, text, mode, &mut all) {
         Ok(()) => print_program(rt, &all),
         Err(stop) => print_stop(rt, stop),
     }
 }
 
-fn show(rt: &HostRuntime, number: u64, text: &[u8]) -> io::Result<()> {
+/// The mode of the text behind a mark: made texts stand behind `>`.
+fn mode_of(mark: u8) -> Mode {
+    match mark {
+        b'>' => Mode::Target,
+        _ => Mode::Source,
+    }
+}
+
+fn show(rt: &HostRuntime, number: u64, mark: u8, text: &[u8]) -> io::Result<()> {
     let text = unescaped(rt.alloc(), text)?;
     print!(rt; "{number} ")?;
-    print_reading(rt, text.as_slice())?;
+    print_reading(rt, mode_of(mark), text.as_slice())?;
     println!(rt; "")
 }
 
@@ -136,9 +166,9 @@ fn main(rt: HostRuntime) -> io::Result<()> {
     }
     let mut number: u64 = 0;
     for line in texts.as_slice().split(|byte| *byte == b'\n') {
-        if let Some((_, text)) = line.split_first() {
+        if let Some((mark, text)) = line.split_first() {
             number = number.saturating_add(1);
-            show(&rt, number, text)?;
+            show(&rt, number, *mark, text)?;
         }
     }
     Ok(())

@@ -27,7 +27,11 @@ places_are file columns globals c e =
     ap (λ (test : Text → Bool). flat_map (of_any_unit test (has globals)) file.units) (ap has c ∙ has_these (names_of (filter is_column file.units)))
     ∙ ap (λ (test : Text → Bool). flat_map (of_any_unit (names_column_unit file) test) file.units) (ap has e ∙ has_these (global_names file))
 
+pub noted_is_unbuilt : (file : File) (columns globals : List Text) (first : Option Place) → columns ≡ inserted [] (names_of (filter is_column file.units)) →
+    globals ≡ inserted [] (global_names file) → first ≡ noted (flat_map (of_any_unit (has columns) (has globals)) file.units) None → first ≡ noted (unbuilt file) None
+noted_is_unbuilt file columns globals first c e h = h ∙ ap (λ (places : List Place). noted places None) (places_are file columns globals c e)
+
 pub first_is_unbuilt : (file : File) (columns globals : List Text) (first : Option Place) → columns ≡ inserted [] (names_of (filter is_column file.units)) →
     globals ≡ inserted [] (global_names file) → first ≡ noted (flat_map (of_any_unit (has columns) (has globals)) file.units) None →
     MatchOption first (unbuilt file ≡ []) (λ at. IsFirst at (unbuilt file))
-first_is_unbuilt file columns globals first c e h = first_is (unbuilt file) first (h ∙ ap (λ (places : List Place). noted places None) (places_are file columns globals c e))
+first_is_unbuilt file columns globals first c e h = first_is (unbuilt file) first (noted_is_unbuilt file columns globals first c e h)

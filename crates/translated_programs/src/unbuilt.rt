@@ -1,5 +1,5 @@
 //! The first place that keeps a program from being translated.
-ghost use Rattle.std.specs.Prelude.{◌≡◌, [], map, flat_map, not, MatchOption, IfOk};
+ghost use Rattle.std.specs.Prelude.{◌≡◌, [], map, flat_map, not, MatchOption, IfOk, None};
 ghost use Rattle.std.specs.List.{list_all};
 ghost use Rattle.claw_meaning.specs.Plain.{plain_option, plain_expr};
 ghost use Rattle.fort_names.specs.NameLists.{has};
@@ -135,9 +135,10 @@ fn note_units(
 ///
 /// # Errors
 /// `NoMemory` only where memory was refused. The rules are this project's own: what isn't translated yet.
-#[tactic(auto, using(crate::proofs::NamesAre::first_is_unbuilt))]
+#[tactic(auto, using(crate::proofs::NamesAre::first_is_unbuilt, crate::proofs::NamesAre::noted_is_unbuilt))]
 pub fn first_unbuilt(alloc: Global, file: &File) -> Result<Option<Place>, NoMemory>
-    ensures { IfOk result (λ first. MatchOption first (unbuilt file.now ≡ []) (λ at. IsFirst at (unbuilt file.now))) }
+    ensures first { IfOk result (λ first. MatchOption first (unbuilt file.now ≡ []) (λ at. IsFirst at (unbuilt file.now))) }
+    ensures noted { IfOk result (λ first. first ≡ noted (unbuilt file.now) None) }
 {
     let names = unit_names(alloc, file)?;
     let first = note_units(alloc, None, &names, file.units.items())?;

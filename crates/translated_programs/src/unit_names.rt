@@ -58,7 +58,7 @@ fn insert_modules(names: &mut NameSet, modules: &[Module]) -> Result<(), NoMemor
 /// The names of modules and of external units.
 #[tactic(auto, using(crate::proofs::NamesAre::inserted_append))]
 fn global_set(alloc: Global, file: &File) -> Result<NameSet, NoMemory>
-    ensures { IfOk result (λ names. names.now ≡ inserted [] (global_names file.now)) }
+    ensures { IfOk result (λ names. names ≡ inserted [] (global_names file.now)) }
 {
     let mut names = NameSet::new(alloc);
     insert_modules(&mut names, file.modules.items())?;

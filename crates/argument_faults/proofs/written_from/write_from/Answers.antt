@@ -7,9 +7,9 @@ use Rattle.sound_programs.specs.Placed.{bare_program}
 use Rattle.sound_programs.specs.Placing.{placed, placed_unit}
 use Rattle.argument_faults.specs.ModuleWrites.{IsFirstWrite}
 use Rattle.argument_faults.proofs.NamedUpTo.{one_unit}
-use Rattle.argument_faults.proofs.writes_reached.write_from.Goals as goal
+use Rattle.argument_faults.proofs.written_from.write_from.Goals as goal
 
--- src/writes_reached.rt
+-- src/written_from.rt
 pub returns : goal.returns
 returns c =
     let f = c.args.file.now in

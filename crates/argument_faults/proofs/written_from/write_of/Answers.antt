@@ -3,7 +3,7 @@ use Rattle.claw_meaning.specs.Scope.{Entity}
 use Rattle.claw_meaning.specs.Syntax.{Text}
 use Rattle.sound_programs.specs.Placing.{placed_unit}
 use Rattle.argument_faults.specs.ModuleWrites.{IsFirstWrite, module_writes_in}
-use Rattle.argument_faults.proofs.writes_reached.write_of.Goals as goal
+use Rattle.argument_faults.proofs.written_from.write_of.Goals as goal
 
 -- src/reaching.rt
 pub returns : goal.returns

@@ -2,9 +2,9 @@ use Rattle.std.proofs.Common.{◌≡◌, ◌<◌, ◌≤◌, length, get_or, ari
 use Rattle.call_graph.proofs.Differing.{names_differ}
 use Rattle.argument_faults.proofs.InOrder.{at_within}
 use Rattle.argument_faults.proofs.FromCallees.{there_at, written_at, all_written}
-use Rattle.argument_faults.proofs.writes_reached.writes_reached.Goals as goal
+use Rattle.argument_faults.proofs.written_from.writes_reached.Goals as goal
 
--- src/writes_reached.rt
+-- src/written_from.rt
 pub callees-callees-requires : goal.callees-callees-requires
 callees-callees-requires c =
     let f = c.args.file.now in
@@ -14,8 +14,8 @@ callees-callees-requires c =
     let within : i < length c.args.graph.now.order = omega (arith, ap length is_order) in
     omega (arith, at_within f c.args.graph.now c.requires.graph (names_differ f c.requires.names) i within, ap (λ l. get_or l i 0) is_order, c.requires.graph.same_length)
 
--- src/writes_reached.rt
--- src/writes_reached.rt
+-- src/written_from.rt
+-- src/written_from.rt
 pub write_from-requires-clause-there : goal.write_from-requires-clause-there
 write_from-requires-clause-there c =
     let f = c.args.file.now in
@@ -26,7 +26,7 @@ write_from-requires-clause-there c =
     there_at f c.args.graph.now c.requires.graph (names_differ f c.requires.names) i within c.loop-unit.writes.items c.loop-unit.invariant
     (get_or order i 0) c.as_slice.result.now c.callees-callees.result.now (ap (λ l. get_or l i 0) is_order) c.as_slice.ensures.value c.callees-callees.ensures
 
--- src/writes_reached.rt
+-- src/written_from.rt
 pub write_from-requires-clause-number : goal.write_from-requires-clause-number
 write_from-requires-clause-number c =
     let f = c.args.file.now in
@@ -36,7 +36,7 @@ write_from-requires-clause-number c =
     let within : i < length c.args.graph.now.order = omega (arith, ap length is_order) in
     omega (arith, at_within f c.args.graph.now c.requires.graph (names_differ f c.requires.names) i within, ap (λ l. get_or l i 0) is_order)
 
--- src/writes_reached.rt
+-- src/written_from.rt
 pub index_mut-requires : goal.index_mut-requires
 index_mut-requires c =
     let f = c.args.file.now in
@@ -46,7 +46,7 @@ index_mut-requires c =
     let within : i < length c.args.graph.now.order = omega (arith, ap length is_order) in
     omega (arith, at_within f c.args.graph.now c.requires.graph (names_differ f c.requires.names) i within, ap (λ l. get_or l i 0) is_order, c.loop-unit.invariant.same_length)
 
--- src/writes_reached.rt
+-- src/written_from.rt
 pub loop-unit-preserved : goal.loop-unit-preserved
 loop-unit-preserved c =
     let f = c.args.file.now in
@@ -58,7 +58,7 @@ loop-unit-preserved c =
     (get_or order i 0) c.as_slice.result.now c.callees-callees.result.now (ap (λ l. get_or l i 0) is_order) c.as_slice.ensures.value c.callees-callees.ensures
     c.in_ok-first.first c.in_ok-first.ensures
 
--- src/writes_reached.rt
+-- src/written_from.rt
 pub returns : goal.returns
 returns c =
     let f = c.args.file.now in
