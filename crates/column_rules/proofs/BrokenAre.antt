@@ -8,11 +8,8 @@ use Rattle.fort_tree.specs.declared.unit.Module as tree_module
 use Rattle.fort_tree.specs.declared.unit.Unit as tree
 use Rattle.claw_meaning.specs.Syntax as plain
 use Rattle.claw_meaning.specs.Syntax.{Text}
-use Rattle.claw_meaning.specs.Plain.{plain_unit}
 use Rattle.claw_meaning.specs.Units.{is_column_unit}
-use Rattle.sound_programs.specs.Placed.{bare_unit, bare_program}
 use Rattle.sound_programs.specs.Placing.{placed, placed_unit, placed_module}
-use Rattle.sound_programs.specs.Scopes.{Of_unit, entity_in}
 use Rattle.sound_programs.proofs.BareTrees.{unit_bare}
 use Rattle.scalar_units.specs.Unbuilt.{IsFirst, unless, noted}
 use Rattle.scalar_units.proofs.Firsts.{first_is}

@@ -1,5 +1,5 @@
 -- A sound program has no fault of names.
-use Rattle.std.proofs.Common.{◌≡◌, List, [], ◌++◌, map, refl, ap, ◌∙◌}
+use Rattle.std.proofs.Common.{◌≡◌, List, [], ◌++◌, ap, ◌∙◌}
 use Rattle.fort_tree.specs.declared.choice.Mode.{Mode}
 use Rattle.fort_tree.specs.declared.fault.Code.{Code}
 use Rattle.fort_tree.specs.declared.fault.Code.TheVariants.{E30, E31, E34, E35, E39, E3B}

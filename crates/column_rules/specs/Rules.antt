@@ -1,6 +1,6 @@
 -- The rules that a column unit keeps, before the rules of its calls. They are this project's own. Names are seen from the unit.
-use Rattle.std.specs.Prelude.{ℕ, Bool, true, false, not, ◌&&◌, ◌||◌, ◌==◌, List, [], ◌∷◌, map, flat_map, count_by, Option, None, Some, is_none}
-use Rattle.std.specs.List.{list_any, list_all}
+use Rattle.std.specs.Prelude.{Bool, true, false, not, ◌&&◌, ◌||◌, ◌==◌, List, [], ◌∷◌, map, flat_map, count_by, Option, None, Some, is_none}
+use Rattle.std.specs.List.{list_all}
 use Rattle.std.specs.Str.{bytes_eq}
 use Rattle.fort_arith.specs.declared.kind.Kind.{Kind}
 use Rattle.fort_arith.specs.declared.kind.Kind.TheVariants.{I4}

@@ -1,20 +1,19 @@
 -- Small programs with one column unit `s`, each the least that breaks a rule, or its nearest neighbour that keeps them all.
-use Rattle.std.specs.Prelude.{◌≡◌, ℕ, Bool, true, List, [], ◌∷◌, codes, Option, Some, None}
+use Rattle.std.specs.Prelude.{◌≡◌, ℕ, true, false, List, [], ◌∷◌, codes, Option, Some, None}
 use Rattle.fort_arith.specs.declared.kind.Kind.TheVariants.{I4, I8}
 use Rattle.fort_tree.specs.declared.expr.Unary.TheVariants.{Minus}
 use Rattle.fort_tree.specs.declared.stmt.DirectiveWord.{DirectiveWord}
 use Rattle.fort_tree.specs.declared.stmt.DirectiveWord.TheVariants.{Define, Parallelize}
-use Rattle.fort_tree.specs.declared.stmt.Named.{Named}
 use Rattle.fort_tree.specs.declared.unit.Intent.TheVariants.{In, InOut}
 use Rattle.fort_tree.specs.declared.unit.Item.TheVariants as item
 use Rattle.claw_meaning.specs.Syntax.{Text}
-use Rattle.sound_programs.specs.Placed.{Expr, Numeral, Name, Signed, No_more, Decl, Directive, Stmt, Assign, Return, If, No_arm, Arm, Nothing_else, Boolean, Unit, Module, Program}
-use Rattle.sound_programs.specs.SmallPrograms.{place, named, declaration, local, dummy, up_to, statements, subroutine, inside, module_of, use_all, call_to}
+use Rattle.sound_programs.specs.Placed.{Expr, Numeral, Name, Signed, No_more, Decl, Directive, Stmt, Assign, Return, If, No_arm, Arm, Nothing_else, Boolean, Unit, Program}
+use Rattle.sound_programs.specs.SmallPrograms.{place, named, declaration, local, dummy, up_to, statements, subroutine, inside, module_of, call_to}
 use Rattle.column_rules.specs.Rules.{broken_in}
 
 abbrev pub directive : ℕ → DirectiveWord → List Text → Option (List (Option Text)) → Option Expr → Option Expr → Directive
 directive line word names over lower upper =
-    record { at = place line 1; word = word; names = names; over = over; number = None; group = None; init = true; lower = lower; upper = upper }
+    record { at = place line 1; word = word; names = names; over = over; number = None; group = None; init = false; lower = lower; upper = upper }
 
 -- `define dimension i(lower:upper)`
 abbrev pub define : Expr → Expr → Directive
@@ -56,6 +55,10 @@ of_x decls body = alone (define one nobody ∷ parallelize (codes "x" ∷ []) No
 -- with these bounds of the dimension
 abbrev pub bounded : Expr → Expr → Program
 bounded lower upper = alone (define lower upper ∷ parallelize (codes "x" ∷ []) None ∷ []) (x_decl ∷ n_decl ∷ []) (assigned (codes "x") ∷ [])
+
+-- with this upper bound and `parallelize data(x, n)`
+abbrev pub both_of_columns : Expr → List Decl → Program
+both_of_columns upper decls = alone (define one upper ∷ parallelize (codes "x" ∷ codes "n" ∷ []) None ∷ []) decls (assigned (codes "x") ∷ [])
 
 -- with this `data` and this `over`
 abbrev pub listing : List Text → Option (List (Option Text)) → Program
@@ -136,13 +139,14 @@ pub record RuleRows : Type 0 where
   pub negative_lower : Keeps (bounded (Signed Minus one (place 2 27)) nobody)
   pub suffixed_lower : Breaks (bounded (Numeral 1 (Some I4) (place 2 28)) nobody)
   pub literal_upper : Keeps (bounded one (Numeral 5 None (place 2 30)))
+  pub negative_upper : Breaks (bounded one (Signed Minus (Numeral 5 None (place 2 31)) (place 2 30)))
   pub suffixed_upper : Breaks (bounded one (Numeral 5 (Some I4) (place 2 30)))
   pub shared_upper : Keeps (bounded one (Name (codes "n") (place 2 30)))
-  pub column_dummy_upper : Breaks (bounded one (Name (codes "x") (place 2 30)))
+  pub column_dummy_upper : Breaks (both_of_columns (Name (codes "n") (place 2 30)) (x_decl ∷ n_decl ∷ []))
   pub wide_upper : Breaks (alone (define one (Name (codes "n") (place 2 30)) ∷ parallelize (codes "x" ∷ []) None ∷ []) (x_decl ∷ declaration (codes "n") (place 5 29) I8 (Some In) [] None ∷ []) (assigned (codes "x") ∷ []))
   pub constant_upper : Keeps (alone (define one (Name (codes "p") (place 2 30)) ∷ parallelize (codes "x" ∷ []) None ∷ []) (x_decl ∷ n_decl ∷ p_decl ∷ []) (assigned (codes "x") ∷ []))
   pub unit_upper : Breaks (bounded one (Name (codes "s") (place 2 30)))
-  pub column_dummy_in_bound : Breaks (of_x (x_decl ∷ n_decl ∷ array_of (Name (codes "x") (place 6 16)) ∷ []) (assigned (codes "x") ∷ []))
+  pub column_dummy_in_bound : Breaks (both_of_columns nobody (x_decl ∷ n_decl ∷ array_of (Name (codes "n") (place 6 16)) ∷ []))
   pub shared_dummy_in_bound : Keeps (of_x (x_decl ∷ n_decl ∷ array_of (Name (codes "n") (place 6 16)) ∷ []) (assigned (codes "x") ∷ []))
   -- RETURN
   pub return_in_if : Breaks (of_x (x_decl ∷ n_decl ∷ []) (assigned (codes "x") ∷ returned_in_if ∷ []))

@@ -26,6 +26,7 @@ returns c = record {
   negative_lower = refl;
   suffixed_lower = refl;
   literal_upper = refl;
+  negative_upper = refl;
   suffixed_upper = refl;
   shared_upper = refl;
   column_dummy_upper = refl;
