@@ -1,2 +1,4 @@
+pub mod OnTrees
 pub mod Rules
+pub mod SmallPrograms
 pub mod Writing

@@ -8,15 +8,13 @@ use Rattle.fort_tree.specs.declared.expr.Unary.TheVariants.{Minus}
 use Rattle.fort_tree.specs.declared.place.Place.{Place}
 use Rattle.fort_tree.specs.declared.stmt.Named.{Named}
 use Rattle.fort_tree.specs.declared.unit.File.{File}
-use Rattle.fort_tree.specs.declared.unit.Unit as tree
 use Rattle.claw_meaning.specs.Syntax.{Text, Expr, Numeral, Name, Signed, Decl, Directive, Unit, Stmt, Assign, Call, If, Select, Do, Block, Piece, Exit, Cycle, Return, Stmts, Done, Then, Arms, No_arm, Arm, Cases, No_case, Case, Otherwise, Nothing_else, Else}
 use Rattle.claw_meaning.specs.Scope.{Entity, Unknown, Variable, Constant, Procedure}
-use Rattle.claw_meaning.specs.Plain.{plain_unit}
 use Rattle.claw_meaning.specs.Units.{directive_of, is_word_define, is_word_parallelize, is_column_unit, is_listed, is_scalar_in, data_of, is_column_dummy}
 use Rattle.sound_programs.specs.ArgumentFaults.{module_writes, reached_from}
 use Rattle.sound_programs.specs.Placed as placed_tree
-use Rattle.sound_programs.specs.Placed.{bare_program}
-use Rattle.sound_programs.specs.Placing.{placed, placed_unit}
+use Rattle.sound_programs.specs.Placed.{bare_program, bare_unit}
+use Rattle.sound_programs.specs.Placing.{placed}
 use Rattle.sound_programs.specs.Scopes.{Of_unit, entity_in, is_known, is_written_intent}
 use Rattle.sound_programs.specs.Walks.{name_in, parts, bounds_in}
 use Rattle.scalar_units.specs.Unbuilt.{unless}
@@ -39,15 +37,15 @@ only_reads_shared u = list_all (λ d. not (writes_shared u d)) u.decls
 -- Where the unit, or one that it reaches, writes module variables. It reaches units by CALLs and by references to functions, whatever
 -- directive stands before them: a way through a CALL of a column unit, or through one under `forward`, counts too. Programs with such a
 -- CALL aren't translated, so for those that are this is as if by plain calls alone.
-abbrev pub module_writes_from : File → tree.Unit → List Place
-module_writes_from file u = flat_map (module_writes (bare_program (placed file))) (reached_from (placed file) u.name)
+abbrev pub module_writes_from : placed_tree.Program → placed_tree.Unit → List Place
+module_writes_from p u = flat_map (module_writes (bare_program p)) (reached_from p u.name)
 
 abbrev pub is_empty : {A : Type 0} → List A → Bool
 is_empty [] = true
 is_empty (x ∷ xs) = false
 
-unfoldable pub writes_no_module : File → tree.Unit → Bool
-writes_no_module file u = is_empty (module_writes_from file u)
+unfoldable pub writes_no_module : placed_tree.Program → placed_tree.Unit → Bool
+writes_no_module p u = is_empty (module_writes_from p u)
 
 -- ---- What `data` and `over` list
 
@@ -181,8 +179,8 @@ has_dimension entity modules u = is_dimension entity modules u (directive_of is_
 abbrev pub names_in_bounds : placed_tree.Unit → List Named
 names_in_bounds u = flat_map name_in (flat_map parts (bounds_in u.decls))
 
-abbrev pub has_shared_bounds : tree.Unit → Bool
-has_shared_bounds u = list_all (λ n. not (is_column_dummy (plain_unit u) n.name)) (names_in_bounds (placed_unit u))
+abbrev pub are_shared : Unit → List Named → Bool
+are_shared u names = list_all (λ n. not (is_column_dummy u n.name)) names
 
 -- ---- No RETURN
 
@@ -217,25 +215,27 @@ abbrev mutual
 
 -- ---- All rules
 
-abbrev pub entity_from : File → tree.Unit → Text → Entity
-entity_from file u = entity_in (bare_program (placed file)) (Of_unit (placed_unit u))
-
-abbrev pub module_names : File → List Text
-module_names file = map (λ m. m.name) file.modules
-
 -- the rules on the unit alone
-abbrev pub keeps_own : tree.Unit → Bool
-keeps_own u =
-    only_reads_shared (plain_unit u) && (lists_dummies (plain_unit u) && (places_dimension (plain_unit u) && never_return (plain_unit u).body))
+abbrev pub keeps_own : Unit → Bool
+keeps_own u = only_reads_shared u && (lists_dummies u && (places_dimension u && never_return u.body))
 
-unfoldable pub keeps_rules : File → tree.Unit → Bool
-keeps_rules file u =
-    keeps_own u && (writes_no_module file u && (has_dimension (entity_from file u) (module_names file) (plain_unit u) && has_shared_bounds u))
+-- all of them, by whether the unit writes no module variable, what its names are, the names of modules, and those in its bounds
+abbrev pub keeps_all : Unit → Bool → (Text → Entity) → List Text → List Named → Bool
+keeps_all u unwritten entity modules names = keeps_own u && (unwritten && (has_dimension entity modules u && are_shared u names))
+
+abbrev pub module_names : placed_tree.Program → List Text
+module_names p = map (λ m. m.name) p.modules
+
+abbrev pub keeps_rules : placed_tree.Program → placed_tree.Unit → Bool
+keeps_rules p u = keeps_all (bare_unit u) (writes_no_module p u) (entity_in (bare_program p) (Of_unit u)) (module_names p) (names_in_bounds u)
 
 -- the header's place, where the unit is a column unit that breaks a rule
-unfoldable pub of_unit : File → tree.Unit → List Place
-of_unit file u = unless (not (is_column_unit (plain_unit u)) || keeps_rules file u) u.at
+abbrev pub of_unit : placed_tree.Program → placed_tree.Unit → List Place
+of_unit p u = unless (not (is_column_unit (bare_unit u)) || keeps_rules p u) u.at
 
--- the headers of the column units that break a rule
+abbrev pub broken_in : placed_tree.Program → List Place
+broken_in p = flat_map (of_unit p) p.units
+
+-- the headers of the column units of a program that break a rule
 abbrev pub broken : File → List Place
-broken file = flat_map (of_unit file) file.units
+broken file = broken_in (placed file)

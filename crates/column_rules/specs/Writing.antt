@@ -3,7 +3,7 @@ use Rattle.std.specs.Prelude.{◌≡◌, ℕ, List, length, Option, None, Some, 
 use Rattle.fort_tree.specs.declared.unit.File.{File}
 use Rattle.fort_tree.specs.declared.unit.Unit as tree
 use Rattle.fort_names.specs.declared.least.At.{At}
-use Rattle.column_rules.specs.Rules.{writes_no_module}
+use Rattle.column_rules.specs.OnTrees.{writes_no_module}
 
 -- there is a write for just those units of the file that write a module variable, or reach a unit that does
 pub record AreWriting (file : File) (writes : List (Option At)) : Type 0 where

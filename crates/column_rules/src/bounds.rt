@@ -1,12 +1,12 @@
 //! The dimension, its bounds, and bounds of declarations.
-ghost use Rattle.std.specs.Prelude.{◌≡◌, Some, flat_map, map, not, IfOk};
-ghost use Rattle.std.specs.List.{list_all};
+ghost use Rattle.std.specs.Prelude.{◌≡◌, Some, flat_map, map, IfOk};
 ghost use Rattle.claw_meaning.specs.Plain.{plain_directive, plain_expr, plain_option, plain_unit};
 ghost use Rattle.claw_meaning.specs.Units as units;
 ghost use Rattle.sound_programs.specs.Placing.{placed_decl};
 ghost use Rattle.sound_programs.specs.Scopes as scopes;
 ghost use Rattle.sound_programs.specs.Walks as walks;
 ghost use Rattle.fort_names.specs.Sights.{means};
+ghost use Rattle.column_rules.specs.OnTrees as trees;
 ghost use Rattle.column_rules.specs.Rules as rules;
 
 use crate::dummies::{declares_scalar_in, is_column_dummy, is_shared};
@@ -28,7 +28,7 @@ fn is_known(sight: &Sight<'_>, name: &Name) -> bool
 }
 
 fn is_module(file: &File, name: &Name) -> bool
-    ensures { result ≡ units.is_listed (rules.module_names file.now) name.now }
+    ensures { result ≡ units.is_listed (trees.module_names file.now) name.now }
 {
     file.modules
         .items()
@@ -38,7 +38,7 @@ fn is_module(file: &File, name: &Name) -> bool
 }
 
 fn is_visible(file: &File, sight: &Sight<'_>, name: &Name) -> bool
-    ensures { result ≡ rules.is_visible (means sight.now) (rules.module_names file.now) name.now }
+    ensures { result ≡ rules.is_visible (means sight.now) (trees.module_names file.now) name.now }
 {
     is_known(sight, name) || is_module(file, name)
 }
@@ -67,7 +67,7 @@ fn is_bare_name(name: &Name, bound: &Option<Expr>) -> bool
 }
 
 fn is_new(file: &File, sight: &Sight<'_>, define: &Directive) -> bool
-    ensures { result ≡ rules.is_new (means sight.now) (rules.module_names file.now) (plain_option define.now.upper) (rules.first_of define.now.names) }
+    ensures { result ≡ rules.is_new (means sight.now) (trees.module_names file.now) (plain_option define.now.upper) (rules.first_of define.now.names) }
 {
     match define.names.items() {
         [] => false,
@@ -135,13 +135,13 @@ fn may_bound(sight: &Sight<'_>, unit: &Unit, name: &Name) -> bool
 }
 
 fn is_upper_name(file: &File, sight: &Sight<'_>, unit: &Unit, name: &Name) -> bool
-    ensures { result ≡ rules.is_upper_name (means sight.now) (rules.module_names file.now) (plain_unit unit.now) name.now }
+    ensures { result ≡ rules.is_upper_name (means sight.now) (trees.module_names file.now) (plain_unit unit.now) name.now }
 {
     !is_visible(file, sight, name) || may_bound(sight, unit, name)
 }
 
 fn is_upper_bound(file: &File, sight: &Sight<'_>, unit: &Unit, expr: &Expr) -> bool
-    ensures { result ≡ rules.is_upper_bound (means sight.now) (rules.module_names file.now) (plain_unit unit.now) (plain_expr expr.now) }
+    ensures { result ≡ rules.is_upper_bound (means sight.now) (trees.module_names file.now) (plain_unit unit.now) (plain_expr expr.now) }
 {
     match expr {
         Expr::Ref(name, None, _) => is_upper_name(file, sight, unit, name),
@@ -156,7 +156,7 @@ fn is_upper_bound(file: &File, sight: &Sight<'_>, unit: &Unit, expr: &Expr) -> b
 }
 
 fn is_upper(file: &File, sight: &Sight<'_>, unit: &Unit, bound: &Option<Expr>) -> bool
-    ensures { result ≡ rules.is_upper (means sight.now) (rules.module_names file.now) (plain_unit unit.now) (plain_option bound.now) }
+    ensures { result ≡ rules.is_upper (means sight.now) (trees.module_names file.now) (plain_unit unit.now) (plain_option bound.now) }
 {
     match bound {
         None => false,
@@ -165,7 +165,7 @@ fn is_upper(file: &File, sight: &Sight<'_>, unit: &Unit, bound: &Option<Expr>) -
 }
 
 fn is_dimension(file: &File, sight: &Sight<'_>, unit: &Unit, define: &Directive) -> bool
-    ensures { result ≡ rules.is_dimension (means sight.now) (rules.module_names file.now) (plain_unit unit.now) (Some (plain_directive define.now)) }
+    ensures { result ≡ rules.is_dimension (means sight.now) (trees.module_names file.now) (plain_unit unit.now) (Some (plain_directive define.now)) }
 {
     is_new(file, sight, define)
         && is_lower(&define.lower)
@@ -176,7 +176,7 @@ fn is_dimension(file: &File, sight: &Sight<'_>, unit: &Unit, define: &Directive)
 /// bound a literal, a PARAMETER or a shared scalar INTENT(IN) dummy of kind 4, or a name that isn't visible; the literals have no
 /// suffix.
 pub fn has_dimension(file: &File, sight: &Sight<'_>, unit: &Unit) -> bool
-    ensures { result ≡ rules.has_dimension (means sight.now) (rules.module_names file.now) (plain_unit unit.now) }
+    ensures { result ≡ rules.has_dimension (means sight.now) (trees.module_names file.now) (plain_unit unit.now) }
 {
     match define_of(unit.marks.items()) {
         None => false,
@@ -198,7 +198,7 @@ fn names_in_bounds(alloc: Global, decls: &[Decl]) -> Result<Vec<Named>, NoMemory
 }
 
 fn are_shared(unit: &Unit, names: &[Named]) -> bool
-    ensures { result ≡ list_all (λ n. not (units.is_column_dummy (plain_unit unit.now) n.name)) names.now }
+    ensures { result ≡ rules.are_shared (plain_unit unit.now) names.now }
 {
     names
         .iter()
@@ -210,7 +210,7 @@ fn are_shared(unit: &Unit, names: &[Named]) -> bool
 /// # Errors
 /// `NoMemory` only where memory was refused.
 pub fn has_shared_bounds(alloc: Global, unit: &Unit) -> Result<bool, NoMemory>
-    ensures { IfOk result (λ shared. shared ≡ rules.has_shared_bounds unit.now) }
+    ensures { IfOk result (λ shared. shared ≡ trees.has_shared_bounds unit.now) }
 {
     let names = names_in_bounds(alloc, unit.decls.items())?;
     Ok(are_shared(unit, names.as_slice()))

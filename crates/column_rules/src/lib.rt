@@ -2,8 +2,15 @@
 #![tactic(auto)]
 
 mod bounds;
+mod broken;
 mod dummies;
 mod lists;
 mod marks;
 mod returns;
+mod rows;
 mod rules;
+#[cfg(test)]
+mod tests;
+
+pub use broken::first_broken;
+pub use rows::rules_by_example;

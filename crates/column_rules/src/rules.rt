@@ -3,6 +3,7 @@ ghost use Rattle.std.specs.Prelude.{◌≡◌, ◌<◌, [], None, Some, flat_map
 ghost use Rattle.claw_meaning.specs.Plain.{plain_unit};
 ghost use Rattle.fort_names.specs.Scoping.{AreSymbolsOf};
 ghost use Rattle.scalar_units.specs.Unbuilt.{IsFirst, noted};
+ghost use Rattle.column_rules.specs.OnTrees as trees;
 ghost use Rattle.column_rules.specs.Rules as rules;
 ghost use Rattle.column_rules.specs.Writing.{AreWriting};
 
@@ -18,7 +19,7 @@ use std::alloc::Global;
 
 /// Whether the unit keeps the rules on itself alone.
 fn keeps_own(unit: &Unit) -> bool
-    ensures { result ≡ rules.keeps_own unit.now }
+    ensures { result ≡ rules.keeps_own (plain_unit unit.now) }
 {
     only_reads_shared(unit)
         && lists_dummies(unit)
@@ -30,7 +31,7 @@ fn keeps_own(unit: &Unit) -> bool
 fn has_dimension_at(file: &File, symbols: &Symbols, number: usize, unit: &Unit) -> bool
     requires symbols { AreSymbolsOf file.now symbols.now }
     requires there { slice_get file.now.units number ≡ Some unit.now }
-    ensures { result ≡ rules.has_dimension (rules.entity_from file.now unit.now) (rules.module_names file.now) (plain_unit unit.now) }
+    ensures { result ≡ rules.has_dimension (trees.entity_from file.now unit.now) (trees.module_names file.now) (plain_unit unit.now) }
 {
     let sight = symbols.sight_of_unit(file, number);
     has_dimension(file, &sight, unit)
@@ -55,12 +56,12 @@ fn write_at(writes: &[Option<At>], number: usize) -> Option<At>
 fn writes_no_module(file: &File, writes: &[Option<At>], number: usize, unit: &Unit) -> bool
     requires writes { AreWriting file.now writes.now }
     requires there { slice_get file.now.units number ≡ Some unit.now }
-    ensures { result ≡ rules.writes_no_module file.now unit.now }
+    ensures { result ≡ trees.writes_no_module file.now unit.now }
 {
     is_none(write_at(writes, number))
 }
 
-#[tactic(auto, unfolding(crate::specs::Rules::keeps_rules))]
+#[tactic(auto, unfolding(crate::specs::OnTrees::keeps_rules))]
 fn keeps_rules(
     alloc: Global,
     file: &File,
@@ -72,7 +73,7 @@ fn keeps_rules(
     requires symbols { AreSymbolsOf file.now symbols.now }
     requires writes { AreWriting file.now writes.now }
     requires there { slice_get file.now.units number ≡ Some unit.now }
-    ensures { IfOk result (λ keeps. keeps ≡ rules.keeps_rules file.now unit.now) }
+    ensures { IfOk result (λ keeps. keeps ≡ trees.keeps_rules file.now unit.now) }
 {
     let shared = has_shared_bounds(alloc, unit)?;
     let own = keeps_own(unit);
@@ -81,7 +82,7 @@ fn keeps_rules(
     Ok(own && unwritten && dimension && shared)
 }
 
-#[tactic(auto, unfolding(crate::specs::Rules::of_unit))]
+#[tactic(auto, unfolding(crate::specs::OnTrees::of_unit))]
 fn note_unit(
     alloc: Global,
     least: Option<Place>,
@@ -94,7 +95,7 @@ fn note_unit(
     requires symbols { AreSymbolsOf file.now symbols.now }
     requires writes { AreWriting file.now writes.now }
     requires there { slice_get file.now.units number ≡ Some unit.now }
-    ensures { IfOk result (λ first. first ≡ noted (rules.of_unit file.now unit.now) least) }
+    ensures { IfOk result (λ first. first ≡ noted (trees.of_unit file.now unit.now) least) }
 {
     let keeps = keeps_rules(alloc, file, symbols, writes, number, unit)?;
     Ok(note_unless(least, !is_column_unit(unit) || keeps, unit.at))
@@ -110,7 +111,7 @@ fn note_units(
     requires symbols { AreSymbolsOf file.now symbols.now }
     requires writes { AreWriting file.now writes.now }
     requires units { units.now ≡ file.now.units }
-    ensures { IfOk result (λ first. first ≡ noted (flat_map (rules.of_unit file.now) units.now) None) }
+    ensures { IfOk result (λ first. first ≡ noted (flat_map (trees.of_unit file.now) units.now) None) }
 {
     let mut least = None;
     for (number, unit) in units.iter().enumerate() {
@@ -123,7 +124,7 @@ fn note_units(
 ///
 /// # Errors
 /// `NoMemory` only where memory was refused.
-#[tactic(auto, using(scalar_units::proofs::Firsts::first_is))]
+#[tactic(auto, using(crate::proofs::BrokenAre::first_is_broken))]
 pub fn first_of(
     alloc: Global,
     file: &File,

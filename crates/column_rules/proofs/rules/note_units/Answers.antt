@@ -1,5 +1,5 @@
 use Rattle.std.proofs.Common.{◌<◌, length, arith, ◌∙◌}
-use Rattle.column_rules.specs.Rules.{of_unit}
+use Rattle.column_rules.specs.OnTrees.{of_unit}
 use Rattle.column_rules.proofs.Steps.{noted_step}
 use Rattle.column_rules.proofs.rules.note_units.Goals as goal
 

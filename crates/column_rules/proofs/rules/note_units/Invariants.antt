@@ -1,7 +1,7 @@
 use Rattle.std.proofs.Common.{◌≡◌, None, drop}
 use Rattle.std.specs.Prelude.{flat_map}
 use Rattle.scalar_units.specs.Unbuilt.{noted}
-use Rattle.column_rules.specs.Rules.{of_unit}
+use Rattle.column_rules.specs.OnTrees.{of_unit}
 use Rattle.column_rules.proofs.rules.note_units.Given as goal
 
 abbrev pub invariant-loop-number : goal.invariant-loop-number
