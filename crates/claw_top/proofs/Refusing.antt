@@ -1,5 +1,5 @@
 -- A refusal stands in one of the files.
-use Rattle.std.proofs.Common.{◌≡◌, ℕ, ◌<◌, Bool, true, false, cond, List, [], ◌∷◌, ◌++◌, Option, None, refl, ap, ◌∙◌, subst, Contains, Ok, Err, IfOk, IfErr}
+use Rattle.std.proofs.Common.{◌≡◌, ℕ, ◌<◌, Bool, true, false, cond, List, [], ◌∷◌, ◌++◌, map, Option, None, refl, ap, ◌∙◌, subst, Contains, Ok, Err, IfOk, IfErr}
 use Rattle.std.specs.Prelude.{flat_map, MatchOption}
 use Rattle.std.proofs.lemmas.List.Elements.{All-head, All-tail}
 use Rattle.fort_tree.specs.declared.choice.Mode.{Mode}
@@ -21,6 +21,7 @@ use Rattle.fort_units.specs.Program.{HasLines, no_line, a_line, mode_of, IsProgr
 use Rattle.fort_units.specs.Places.{LineInFiles}
 use Rattle.scalar_units.specs.Unbuilt.{is_earlier, IsFirst, noted}
 use Rattle.scalar_units.proofs.Firsts.{first_is, two_parts}
+use Rattle.sound_programs.specs.Placing.{placed, placed_unit}
 use Rattle.column_rules.specs.Rules.{broken, of_unit}
 use Rattle.translated_programs.specs.NotBuilt.{names_column_unit, is_global, of_any_unit, unbuilt}
 use Rattle.claw_top.specs.KeptBack.{kept_back}
@@ -71,7 +72,7 @@ empty_built : (file : File) → IsProgram [] file → kept_back file ≡ []
 empty_built file h =
     let forms = no_forms [] h.judged.items h.judged.own h.judged.forms refl h.judged.are in
     let parts = nothing_nests (mode_of []) h.judged.forms file.modules file.units file.order forms h.nests in
-    ap (λ (us : List tree.Unit). flat_map (of_any_unit (names_column_unit file) (is_global file)) us ++ flat_map (of_unit file) us) parts.1
+    ap (λ (us : List tree.Unit). flat_map (of_any_unit (names_column_unit file) (is_global file)) us ++ flat_map (of_unit (placed file)) (map placed_unit us)) parts.1
 
 -- the first of what isn't built and of the headers of units that break a rule
 pub first_of_both : (file : File) (unbuilt_first first : Option Place) → unbuilt_first ≡ noted (unbuilt file) None → first ≡ noted (broken file) unbuilt_first → MatchOption first (kept_back file ≡ []) (λ at. IsFirst at (kept_back file))
