@@ -1,8 +1,8 @@
 //! All rules, and the units that break one.
-ghost use Rattle.std.specs.Prelude.{◌≡◌, ◌<◌, [], None, Some, flat_map, is_none as is_none_test, length, slice_get, slice_index_or, MatchOption, IfOk};
+ghost use Rattle.std.specs.Prelude.{◌≡◌, ◌<◌, None, Some, flat_map, is_none as is_none_test, length, slice_get, slice_index_or, IfOk};
 ghost use Rattle.claw_meaning.specs.Plain.{plain_unit};
 ghost use Rattle.fort_names.specs.Scoping.{AreSymbolsOf};
-ghost use Rattle.scalar_units.specs.Unbuilt.{IsFirst, noted};
+ghost use Rattle.scalar_units.specs.Unbuilt.{noted};
 ghost use Rattle.column_rules.specs.OnTrees as trees;
 ghost use Rattle.column_rules.specs.Rules as rules;
 ghost use Rattle.column_rules.specs.Writing.{AreWriting};
