@@ -165,10 +165,15 @@ fn one_source(rt: HostRuntime) {
 
 // Units with one fault each: of names, of calls, and of kinds.
 const NAMES: &str = "subroutine a\nx = 1\nend subroutine\n";
+
 const OTHER_NAMES: &str = "subroutine b\ny = 1\nend subroutine\n";
+
 const CALLS: &str = "subroutine c\ncall c\nend subroutine\n";
+
 const OTHER_CALLS: &str = "subroutine d\ncall d\nend subroutine\n";
+
 const KINDS: &str = "subroutine e\nlogical :: x\nx = 1\nend subroutine\n";
+
 const OTHER_KINDS: &str = "subroutine f\nlogical :: x\nx = 1\nend subroutine\n";
 
 // Two sources, and the code, the file and the line of their fault.

@@ -127,8 +127,9 @@ fn may_bound(sight: &Sight<'_>, unit: &Unit, name: &Name) -> bool
 {
     match sight.meaning(name) {
         Meaning::Nothing => false,
-        Meaning::Variable(_, decl) =>
-            is_default(decl.kind) && declares_scalar_in(decl) && is_shared(unit, name),
+        Meaning::Variable(_, decl) => is_default(decl.kind)
+            && declares_scalar_in(decl)
+            && is_shared(unit, name),
         Meaning::Constant(decl) => is_default(decl.kind),
         Meaning::Unit(_, _) => false,
     }

@@ -52,5 +52,11 @@ pub fn note_broken(
     ensures { IfOk result (λ first. first ≡ noted (broken checked.now.file) least) }
 {
     checked.is_sound();
-    note_in(alloc, least, checked.file(), checked.symbols(), checked.graph())
+    note_in(
+        alloc,
+        least,
+        checked.file(),
+        checked.symbols(),
+        checked.graph(),
+    )
 }
