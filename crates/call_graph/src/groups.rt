@@ -85,13 +85,15 @@ impl Groups {
         })
     }
 
-    fn is_apart(&self, from: usize, to: usize) -> bool
+    /// Whether the numbers say that nothing leads from the first point to the second.
+    pub fn is_apart(&self, from: usize, to: usize) -> bool
         ensures { result ≡ apart self.now from to }
     {
         self.rise && is_below(self.numbers.as_slice(), to, from)
     }
 
-    fn is_joined(&self, from: usize, to: usize) -> bool
+    /// Whether a root says that the first point leads to the second.
+    pub fn is_joined(&self, from: usize, to: usize) -> bool
         ensures { result ≡ joined self.now from to }
     {
         are_one(

@@ -1,12 +1,14 @@
-//! Each public function once.
+//! Each public function once, and that the groups of a small graph are told at once.
 ghost use Rattle.std.specs.Prelude.{◌≡◌, [], ◌∷◌, None, IfOk};
 ghost use Rattle.sound_programs.specs.Faults.{faults_of_names};
 ghost use Rattle.sound_programs.specs.Placing.{placed};
 
 use crate::graph_of;
+use crate::groups::Groups;
 use fort_names::symbols_of;
 use fort_tree::{File, Name, NoMemory, Place, Seq, Unit};
-use std::alloc::Global;
+use numbered_graph::{Row, reversed};
+use std::alloc::{AllocError, Global};
 use std::test::Fail;
 
 const AT: Place = Place {
@@ -52,5 +54,29 @@ fn one_unit_by_itself(rt: HostRuntime) -> Result<(), Fail> {
     let graph = graph_of(rt.alloc(), &file, &symbols)?;
     assert_eq!(rt; graph.order(), [0].as_slice());
     assert_eq!(rt; graph.callees(0).len(), 0);
+    Ok(())
+}
+
+/// A link leads to a cycle of two points, and one from it.
+fn around_a_cycle(alloc: Global) -> Result<Vec<Row>, AllocError>
+    ensures { IfOk result (λ rows. rows.items ≡ (1 ∷ []) ∷ (2 ∷ []) ∷ (1 ∷ 3 ∷ []) ∷ [] ∷ []) }
+{
+    let mut rows = Vec::new(alloc);
+    rows.push(Row::of(alloc, &[1])?)?;
+    rows.push(Row::of(alloc, &[2])?)?;
+    rows.push(Row::of(alloc, &[1, 3])?)?;
+    rows.push(Row::new(alloc))?;
+    Ok(rows)
+}
+
+#[test]
+fn groups_are_told(rt: HostRuntime) -> Result<(), Fail> {
+    let rows = around_a_cycle(rt.alloc())?;
+    let back = reversed(rt.alloc(), rows.as_slice())?;
+    let groups = Groups::of(rt.alloc(), rows.as_slice(), back.as_slice())?;
+    assert!(rt; groups.is_apart(1, 0));
+    assert!(rt; groups.is_joined(2, 1));
+    assert!(rt; groups.is_joined(1, 2));
+    assert!(rt; groups.is_apart(3, 2));
     Ok(())
 }

@@ -19,7 +19,10 @@ use Rattle.fort_spell.specs.Units.{layout_of}
 use Rattle.fort_units.specs.Program.{IsProgram}
 use Rattle.layout_reading.specs.Programs.{IsPrintableFile, Spells}
 use Rattle.sound_programs.specs.Sound.{Sound}
+use Rattle.column_rules.specs.Rules.{broken}
+use Rattle.sound_programs.proofs.SoundLaws.{left_empty}
 use Rattle.translated_programs.specs.NotBuilt.{unbuilt}
+use Rattle.claw_top.specs.KeptBack.{kept_back}
 use Rattle.translated_programs.specs.Translated.{translated, translated_unit, wide_in, IsTranslatable, as_it_is, for_all_columns, AreTranslatable}
 use Rattle.written_programs.specs.Writable.{IsWrittenAs, UnitByUnit}
 use Rattle.written_programs.specs.Writable as writable
@@ -68,9 +71,10 @@ unit_by_unit laws s t units is = subst (UnitByUnit IsWrittenAs s) (sym is) (reco
 
 -- ---- the translation
 
-pub is_translation : Laws → (sources : List (List ℕ)) (lines : List Line) (file made : File) → HaveLines sources lines → IsProgram lines file → Sound Source file → unbuilt file ≡ [] →
+pub is_translation : Laws → (sources : List (List ℕ)) (lines : List Line) (file made : File) → HaveLines sources lines → IsProgram lines file → Sound Source file → kept_back file ≡ [] →
     plain_file made ≡ translated (plain_file file) → Translation sources (layout_of made)
-is_translation laws sources lines file made are spelled sound built is =
+is_translation laws sources lines file made are spelled sound kept is =
+    let built = left_empty (unbuilt file) (broken file) kept in
     let printable = laws.printable lines file made spelled (unit_by_unit laws (plain_file file) (plain_file made) (laws.units file sound built) is) in
     record {
       directed = file;
@@ -78,7 +82,7 @@ is_translation laws sources lines file made are spelled sound built is =
       wide = wide_in (plain_file file);
       spelled = record { lines = lines; are = are; spelled = spelled };
       sound = sound;
-      built = built;
+      built = kept;
       layout = refl;
       interface = laws.interface file (plain_file made) sound built is;
       erased = laws.erased file (plain_file made) sound built is;

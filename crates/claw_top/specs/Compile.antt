@@ -10,10 +10,11 @@ use Rattle.fort_tree.specs.declared.unit.File.{File}
 use Rattle.fort_units.specs.Program.{IsProgram, HasFirst}
 use Rattle.scalar_units.specs.Unbuilt.{IsFirst}
 use Rattle.sound_programs.specs.Sound.{Sound}
-use Rattle.translated_programs.specs.NotBuilt.{is_column, unbuilt}
+use Rattle.translated_programs.specs.NotBuilt.{is_column}
 use Rattle.claw_words.specs.declared.reading.Command.{Command}
 use Rattle.claw_words.specs.declared.reading.Command.TheVariants.{Translate, Check}
 use Rattle.claw_top.specs.Judged.{HasProgramFault}
+use Rattle.claw_top.specs.KeptBack.{kept_back}
 use Rattle.claw_top.specs.Sources.{HaveLines, HaveTextFault, begins_at}
 use Rattle.claw_top.specs.Translation.{Translation}
 
@@ -42,7 +43,7 @@ pub record IsNotBuilt (sources : List (List ℕ)) (fault : Fault) : Type 0 where
   pub spelled : IsProgram lines file
   pub sound : Sound Source file
   pub place : Place
-  pub first : IsFirst place (unbuilt file)
+  pub first : IsFirst place (kept_back file)
   pub is : fault ≡ not_built (begins_at place lines)
 
 -- `units U column units C`: the numbers of all units and of the column units

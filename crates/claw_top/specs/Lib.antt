@@ -1,6 +1,7 @@
 pub mod Judged
 pub mod Limits
 pub mod Sources
+pub mod KeptBack
 pub mod Translation
 pub mod Compile
 pub mod Answer

@@ -16,7 +16,7 @@ use Rattle.fort_spell.specs.Units.{layout_of}
 use Rattle.fort_tree.specs.declared.statement.Line.{Line}
 use Rattle.fort_units.specs.Program.{IsProgram}
 use Rattle.layout_reading.specs.Programs.{Spells}
-use Rattle.translated_programs.specs.NotBuilt.{unbuilt}
+use Rattle.claw_top.specs.KeptBack.{kept_back}
 use Rattle.claw_top.specs.Sources.{HaveLines}
 
 -- the sources' lines spell the program
@@ -25,7 +25,7 @@ pub record AreSpelled (sources : List (List ℕ)) (file : File) : Type 0 where
   pub are : HaveLines sources lines
   pub spelled : IsProgram lines file
 
--- The sources spell one program, which is sound and of which nothing is unbuilt, and the text is the layout of another. That one has the interface of the
+-- The sources spell one program, which is sound and from whose translation nothing keeps, and the text is the layout of another. That one has the interface of the
 -- sources' program with its wide variables, erases to it, and has its loops over the columns where they must stand; and for
 -- every number of columns, every well-typed input and every order of parallel iterations it keeps what the sources' program
 -- does, and no two iterations touch one element unless both only read it. As a made text, the text is read as that program and
@@ -36,7 +36,7 @@ pub record Translation (sources : List (List ℕ)) (text : List ℕ) : Type 0 wh
   pub wide : ℕ → Text → Bool
   pub spelled : AreSpelled sources directed
   pub sound : Sound Source directed
-  pub built : unbuilt directed ≡ []
+  pub built : kept_back directed ≡ []
   pub layout : text ≡ layout_of written
   pub interface : Interface (plain_file directed) (plain_file written) wide
   pub erased : Erased (plain_file directed) (plain_file written) wide

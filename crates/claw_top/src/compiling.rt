@@ -1,11 +1,12 @@
 // The compiler: the program that is made of the sources, or their first fault.
-ghost use Rattle.std.specs.Prelude.{◌≡◌, ◌≤◌, [], IfOk, IfErr, length};
+ghost use Rattle.std.specs.Prelude.{◌≡◌, ◌≤◌, [], IfOk, IfErr, MatchOption, length};
 ghost use Rattle.fort_tree.specs.declared.choice.Mode.TheVariants.{Source};
 ghost use Rattle.fort_units.specs.Program.{IsProgram};
+ghost use Rattle.scalar_units.specs.Unbuilt.{IsFirst};
 ghost use Rattle.sound_programs.specs.Sound.{IsNested, Sound};
-ghost use Rattle.translated_programs.specs.NotBuilt.{unbuilt};
 ghost use Rattle.claw_top.specs.Compile.{Compiles, IsTranslation};
 ghost use Rattle.claw_top.specs.Judged.{HasJudgedStop};
+ghost use Rattle.claw_top.specs.KeptBack.{kept_back};
 ghost use Rattle.claw_top.specs.Limits.{most_files, most_bytes, most_lines, total_length};
 ghost use Rattle.claw_top.specs.Outcome.{bytes_of, outcome_of, IsInFiles};
 ghost use Rattle.claw_top.specs.Sources.{HaveLines, HaveTextStop, HaveProgramStop, AreBefore};
@@ -15,8 +16,9 @@ use crate::placing::begins_at;
 use call_graph::graph_of;
 use checked_programs::{Checked, check};
 use claw_words::Command;
+use column_rules::note_broken;
 use fort_lex::lines;
-use fort_tree::{Fault, File, Line, Mode, NoMemory, Seq, Stop};
+use fort_tree::{Fault, File, Line, Mode, NoMemory, Place, Seq, Stop};
 use fort_units::file;
 use layout_reading::{layouts_are_read, layouts_spell_one_file};
 use name_faults::names;
@@ -88,7 +90,7 @@ fn compile_lines(
 {
     match program_of(alloc, sources, lines) {
         Ok(program) => match command {
-            Command::Translate(..) => translate(alloc, sources, lines, program.file()),
+            Command::Translate(..) => translate(alloc, sources, lines, &program),
             Command::Check => Ok(Compiled::Counts(counts(alloc, program.file())?)),
         },
         Err(Stop::Fault(fault)) => Ok(Compiled::Fault(fault)),
@@ -131,22 +133,32 @@ fn judge(alloc: Global, program: File) -> Result<Checked, Stop>
     }
 }
 
+// The first place that keeps a program from being translated.
+#[tactic(auto, using(crate::proofs::Refusing::first_of_both))]
+fn first_kept_back(alloc: Global, program: &Checked) -> Result<Option<Place>, NoMemory>
+    ensures { IfOk result (λ first. MatchOption first (kept_back program.now.file ≡ []) (λ at. IsFirst at (kept_back program.now.file))) }
+{
+    let unbuilt = first_unbuilt(alloc, program.file())?;
+    let first = note_broken(alloc, unbuilt, program)?;
+    Ok(first)
+}
+
 // Translates a sound program, or tells where it isn't translated yet.
 fn translate(
     alloc: Global,
     sources: &[Vec<u8>],
     lines: &Seq<Line>,
-    program: &File,
+    program: &Checked,
 ) -> Result<Compiled, NoMemory>
     requires lines { HaveLines (bytes_of sources.now) lines.now }
     requires in_files { AreBefore (length sources.now) lines.now }
-    requires spelled { IsProgram lines.now program.now }
-    requires sound { Sound Source program.now }
+    requires spelled { IsProgram lines.now program.now.file }
+    requires sound { Sound Source program.now.file }
     ensures compiles { IfOk result (λ compiled. IsTranslation (bytes_of sources.now) (outcome_of compiled)) }
     ensures in_files { IfOk result (λ compiled. IsInFiles (length sources.now) (outcome_of compiled)) }
 {
-    match first_unbuilt(alloc, program)? {
-        None => make(alloc, sources, lines, program),
+    match first_kept_back(alloc, program)? {
+        None => make(alloc, sources, lines, program.file()),
         Some(place) => {
             let begin = begins_at(place, lines.items());
             Ok(Compiled::Fault(Fault::outside_profile(begin, 13)))
@@ -154,7 +166,7 @@ fn translate(
     }
 }
 
-// Makes the program for all columns of a sound program of which nothing is unbuilt.
+// Makes the program for all columns of a sound program from whose translation nothing keeps.
 fn make(
     alloc: Global,
     sources: &[Vec<u8>],
@@ -164,7 +176,7 @@ fn make(
     requires lines { HaveLines (bytes_of sources.now) lines.now }
     requires spelled { IsProgram lines.now program.now }
     requires sound { Sound Source program.now }
-    requires built { unbuilt program.now ≡ [] }
+    requires built { kept_back program.now ≡ [] }
     ensures compiles { IfOk result (λ compiled. IsTranslation (bytes_of sources.now) (outcome_of compiled)) }
     ensures in_files { IfOk result (λ compiled. IsInFiles (length sources.now) (outcome_of compiled)) }
 {

@@ -122,7 +122,32 @@ fn refusals(rt: HostRuntime) -> Result<(), Fail> {
         ),
         (
             "subroutine n\nend\nsubroutine s(a)\n  integer, intent(out) :: a\n  !$claw define dimension c(1:n) parallelize data(a)\n  a = 1\nend\n",
+            "one.f90:3:1: E20 not in the profile 13\n",
+        ),
+        // a rule of column units that is broken is told at the header: a shared dummy, RETURN, a module variable, a bound
+        (
+            "\n  subroutine s(a, b)\n  integer, intent(out) :: a, b\n  !$claw define dimension c(1:n) parallelize data(a)\n  a = 1\n  b = 2\nend\n",
+            "one.f90:2:3: E20 not in the profile 13\n",
+        ),
+        (
+            "subroutine s(a, b)\n  integer, intent(out) :: a\n  integer, intent(in) :: b\n  !$claw define dimension c(1:n) parallelize data(a)\n  a = b\nend\n",
+            "one.f90:4:3: E20 not in the profile 13\n",
+        ),
+        (
+            "subroutine s(a)\n  integer, intent(out) :: a\n  !$claw define dimension c(1:n) parallelize data(a)\n  a = 1\n  if (a > 2) then\n    return\n  end if\nend\n",
+            "one.f90:1:1: E20 not in the profile 13\n",
+        ),
+        (
+            "module m\n  integer :: v\nend\nsubroutine s(a)\n  use m\n  integer, intent(out) :: a\n  !$claw define dimension c(1:n) parallelize data(a)\n  a = 1\n  v = 2\nend\n",
+            "one.f90:4:1: E20 not in the profile 13\n",
+        ),
+        (
+            "module m\n  integer :: v\nend\nsubroutine s(a)\n  use m\n  integer, intent(out) :: a\n  !$claw define dimension c(1:n) parallelize data(a)\n  a = v\nend\n",
             "one.f90:5:3: E20 not in the profile 13\n",
+        ),
+        (
+            "subroutine s(k, a)\n  integer, intent(in) :: k, a(k)\n  !$claw define dimension c(1:n) parallelize data(k, a)\nend\n",
+            "one.f90:1:1: E20 not in the profile 13\n",
         ),
         (
             "subroutine s(a)\n  integer, intent(in) :: a\n  !$claw define dimension c(1:n) parallelize data(a)\n  a = 1\nend\n",

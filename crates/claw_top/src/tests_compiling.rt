@@ -100,15 +100,15 @@ fn one_source(rt: HostRuntime) {
         ),
         (
             "subroutine s(a)\ninteger, intent(out) :: a\n!$claw define dimension c(1:c) parallelize data(a)\nend subroutine",
-            3,
+            1,
         ),
         (
             "subroutine s(a)\ninteger, intent(out) :: a\n!$claw define dimension s(1:n) parallelize data(a)\nend subroutine",
-            3,
+            1,
         ),
         (
             "subroutine s(a)\ninteger, intent(out) :: a\n!$claw define dimension c(1:n) parallelize data(a,a)\nend subroutine",
-            3,
+            1,
         ),
         (
             "subroutine s(a)\ninteger, intent(out) :: a\n!$claw define dimension c(1:n) parallelize data(a)\nend subroutine t",
@@ -120,7 +120,7 @@ fn one_source(rt: HostRuntime) {
         ),
         (
             "subroutine s(a)\ninteger, intent(out) :: a\n!$claw define dimension c(1_4:n) parallelize data(a)\nend subroutine",
-            3,
+            1,
         ),
         (
             "subroutine s(a)\ninteger, intent(out) :: a\n!$claw define dimension c(1:n) parallelize data(a)\na=1 +\nend subroutine",
@@ -133,27 +133,27 @@ fn one_source(rt: HostRuntime) {
         ("subroutine s(a)\na = #\n", 2),
         (
             "subroutine s(a,b)\ninteger, intent(out) :: a, b\n!$claw define dimension c(1:n) parallelize data(a)\nend subroutine",
-            3,
+            1,
         ),
         (
             "subroutine s(a)\ninteger, intent(out) :: a\n!$claw define dimension a(1:n) parallelize data(a)\nend subroutine",
-            3,
+            1,
         ),
         (
             "subroutine s(a)\ninteger, intent(out) :: a\n!$claw define dimension c(1:a) parallelize data(a)\nend subroutine",
-            3,
+            1,
         ),
         (
             "subroutine s(a)\ninteger, intent(out) :: a\n!$claw define dimension c(1:s) parallelize data(a)\nend subroutine",
-            3,
+            1,
         ),
         (
             "module n\nend module\nsubroutine s(a)\ninteger, intent(out) :: a\n!$claw define dimension c(1:n) parallelize data(a)\nend subroutine",
-            5,
+            3,
         ),
         (
             "module c\nend module\nsubroutine s(a)\ninteger, intent(out) :: a\n!$claw define dimension c(1:n) parallelize data(a)\nend subroutine",
-            5,
+            3,
         ),
     ];
 
@@ -165,10 +165,15 @@ fn one_source(rt: HostRuntime) {
 
 // Units with one fault each: of names, of calls, and of kinds.
 const NAMES: &str = "subroutine a\nx = 1\nend subroutine\n";
+
 const OTHER_NAMES: &str = "subroutine b\ny = 1\nend subroutine\n";
+
 const CALLS: &str = "subroutine c\ncall c\nend subroutine\n";
+
 const OTHER_CALLS: &str = "subroutine d\ncall d\nend subroutine\n";
+
 const KINDS: &str = "subroutine e\nlogical :: x\nx = 1\nend subroutine\n";
+
 const OTHER_KINDS: &str = "subroutine f\nlogical :: x\nx = 1\nend subroutine\n";
 
 // Two sources, and the code, the file and the line of their fault.

@@ -1,6 +1,6 @@
 -- The rules on trees are those on placed programs.
-use Rattle.std.proofs.Common.{◌≡◌, List, [], ◌∷◌, ◌++◌, map, refl, sym, ap, ◌∙◌, Option, None}
-use Rattle.std.specs.Prelude.{flat_map, MatchOption, not, ◌||◌}
+use Rattle.std.proofs.Common.{◌≡◌, List, [], ◌∷◌, ◌++◌, map, refl, sym, ap, ◌∙◌, Option}
+use Rattle.std.specs.Prelude.{flat_map, not, ◌||◌}
 use mathlib.Core.Path.{ap₂}
 use Rattle.fort_tree.specs.declared.place.Place.{Place}
 use Rattle.fort_tree.specs.declared.unit.File.{File}
@@ -11,8 +11,7 @@ use Rattle.claw_meaning.specs.Syntax.{Text}
 use Rattle.claw_meaning.specs.Units.{is_column_unit}
 use Rattle.sound_programs.specs.Placing.{placed, placed_unit, placed_module}
 use Rattle.sound_programs.proofs.BareTrees.{unit_bare}
-use Rattle.scalar_units.specs.Unbuilt.{IsFirst, unless, noted}
-use Rattle.scalar_units.proofs.Firsts.{first_is}
+use Rattle.scalar_units.specs.Unbuilt.{unless, noted}
 use Rattle.column_rules.specs.Rules as rules
 use Rattle.column_rules.specs.OnTrees as trees
 use Rattle.column_rules.specs.OnTrees.{of_unit, keeps_rules, writes_no_module}
@@ -34,6 +33,5 @@ units_same : (file : File) (us : List tree.Unit) → flat_map (rules.of_unit (pl
 units_same file [] = refl
 units_same file (u ∷ us) = ap₂ (λ (x y : List Place). x ++ y) (unit_same file u) (units_same file us)
 
-pub first_is_broken : (file : File) (first : Option Place) → first ≡ noted (trees.broken file) None →
-    MatchOption first (rules.broken file ≡ []) (λ at. IsFirst at (rules.broken file))
-first_is_broken file first e = first_is (rules.broken file) first (e ∙ ap (λ (places : List Place). noted places None) (sym (units_same file file.units)))
+pub noted_is_broken : (file : File) (least first : Option Place) → first ≡ noted (trees.broken file) least → first ≡ noted (rules.broken file) least
+noted_is_broken file least first e = e ∙ ap (λ (places : List Place). noted places least) (sym (units_same file file.units))

@@ -1,13 +1,13 @@
 //! The column units of a sound program that break a rule.
-ghost use Rattle.std.specs.Prelude.{◌≡◌, [], MatchOption, IfOk};
+ghost use Rattle.std.specs.Prelude.{◌≡◌, [], IfOk};
 ghost use Rattle.sound_programs.specs.Faults.{faults_of_names};
 ghost use Rattle.sound_programs.specs.Placing.{placed};
 ghost use Rattle.fort_names.specs.Scoping.{AreSymbolsOf};
 ghost use Rattle.call_graph.specs.CallGraphs.{IsCallGraph};
-ghost use Rattle.scalar_units.specs.Unbuilt.{IsFirst};
+ghost use Rattle.scalar_units.specs.Unbuilt.{noted};
 ghost use Rattle.column_rules.specs.Rules.{broken};
 
-use crate::rules::first_of;
+use crate::rules::note_headers;
 use argument_faults::writes_reached;
 use call_graph::Graph;
 use checked_programs::Checked;
@@ -16,8 +16,9 @@ use fort_tree::{File, NoMemory, Place};
 use std::alloc::Global;
 
 #[tactic(auto, using(crate::proofs::Writing::are_writing))]
-fn first_in(
+fn note_in(
     alloc: Global,
+    least: Option<Place>,
     file: &File,
     symbols: &Symbols,
     graph: &Graph,
@@ -25,26 +26,37 @@ fn first_in(
     requires symbols { AreSymbolsOf file.now symbols.now }
     requires names { faults_of_names (placed file.now) ≡ [] }
     requires graph { IsCallGraph file.now graph.now }
-    ensures { IfOk result (λ first. MatchOption first (broken file.now ≡ []) (λ at. IsFirst at (broken file.now))) }
+    ensures { IfOk result (λ first. first ≡ noted (broken file.now) least) }
 {
     let writes = writes_reached(alloc, file, symbols, graph)?;
-    let first = first_of(alloc, file, symbols, writes.as_slice())?;
+    let first = note_headers(alloc, least, file, symbols, writes.as_slice())?;
     Ok(first)
 }
 
-/// The first name in a header of a column unit that breaks a rule, or `None` exactly where each column unit keeps all of them. They are
-/// - of E50: a dummy that is no column dummy isn't OUT or INOUT;
-/// - of E51: neither the unit nor one that it reaches by references writes a module variable;
-/// - of E52: `data` lists dummies alone, each once, and `over` has the dimension's name just once and no other name;
-/// - of E53: the dimension's name isn't visible in the unit and isn't the upper bound; the lower bound is a literal; the upper bound is a literal, a PARAMETER or a
-///   shared scalar INTENT(IN) dummy of kind 4, or a name that isn't visible; the literals have no suffix; no bound in a declaration names a column dummy;
-/// - of E54: no RETURN stands in the unit.
+/// The first of the place so far and of the names in the headers of the column units that break a rule. The rules are
+/// - a dummy that is no column dummy isn't OUT or INOUT;
+/// - neither the unit nor one that it reaches by references writes a module variable;
+/// - `data` lists dummies alone, each once, and `over` has the dimension's name just once and no other name;
+/// - the dimension's name isn't visible in the unit and isn't the upper bound; the lower bound is a literal; the upper bound is a literal, a PARAMETER or a
+///   shared scalar INTENT(IN) dummy of kind 4, or a name that isn't visible; the literals have no suffix;
+/// - no bound in a declaration names a column dummy;
+/// - no RETURN stands in the unit.
 ///
 /// # Errors
 /// `NoMemory` only where memory was refused. The rules are this project's own, and so is what directives mean.
-pub fn first_broken(alloc: Global, checked: &Checked) -> Result<Option<Place>, NoMemory>
-    ensures { IfOk result (λ first. MatchOption first (broken checked.now.file ≡ []) (λ at. IsFirst at (broken checked.now.file))) }
+pub fn note_broken(
+    alloc: Global,
+    least: Option<Place>,
+    checked: &Checked,
+) -> Result<Option<Place>, NoMemory>
+    ensures { IfOk result (λ first. first ≡ noted (broken checked.now.file) least) }
 {
     checked.is_sound();
-    first_in(alloc, checked.file(), checked.symbols(), checked.graph())
+    note_in(
+        alloc,
+        least,
+        checked.file(),
+        checked.symbols(),
+        checked.graph(),
+    )
 }

@@ -12,5 +12,5 @@ mod rules;
 #[cfg(test)]
 mod tests;
 
-pub use broken::first_broken;
+pub use broken::note_broken;
 pub use rows::rules_by_example;

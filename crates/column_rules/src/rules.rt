@@ -1,8 +1,8 @@
 //! All rules, and the units that break one.
-ghost use Rattle.std.specs.Prelude.{◌≡◌, ◌<◌, [], None, Some, flat_map, is_none as is_none_test, length, slice_get, slice_index_or, MatchOption, IfOk};
+ghost use Rattle.std.specs.Prelude.{◌≡◌, ◌<◌, None, Some, flat_map, is_none as is_none_test, length, slice_get, slice_index_or, IfOk};
 ghost use Rattle.claw_meaning.specs.Plain.{plain_unit};
 ghost use Rattle.fort_names.specs.Scoping.{AreSymbolsOf};
-ghost use Rattle.scalar_units.specs.Unbuilt.{IsFirst, noted};
+ghost use Rattle.scalar_units.specs.Unbuilt.{noted};
 ghost use Rattle.column_rules.specs.OnTrees as trees;
 ghost use Rattle.column_rules.specs.Rules as rules;
 ghost use Rattle.column_rules.specs.Writing.{AreWriting};
@@ -103,6 +103,7 @@ fn note_unit(
 
 fn note_units(
     alloc: Global,
+    least: Option<Place>,
     file: &File,
     symbols: &Symbols,
     writes: &[Option<At>],
@@ -111,30 +112,31 @@ fn note_units(
     requires symbols { AreSymbolsOf file.now symbols.now }
     requires writes { AreWriting file.now writes.now }
     requires units { units.now ≡ file.now.units }
-    ensures { IfOk result (λ first. first ≡ noted (flat_map (trees.of_unit file.now) units.now) None) }
+    ensures { IfOk result (λ first. first ≡ noted (flat_map (trees.of_unit file.now) units.now) least) }
 {
-    let mut least = None;
+    let mut least = least;
     for (number, unit) in units.iter().enumerate() {
         least = note_unit(alloc, least, file, symbols, writes, number, unit)?;
     }
     Ok(least)
 }
 
-/// The first place of a header among the column units that break a rule, or `None` exactly where none does.
+/// The first of the place so far and of the headers of the column units that break a rule.
 ///
 /// # Errors
 /// `NoMemory` only where memory was refused.
-#[tactic(auto, using(crate::proofs::BrokenAre::first_is_broken))]
-pub fn first_of(
+#[tactic(auto, using(crate::proofs::BrokenAre::noted_is_broken))]
+pub fn note_headers(
     alloc: Global,
+    least: Option<Place>,
     file: &File,
     symbols: &Symbols,
     writes: &[Option<At>],
 ) -> Result<Option<Place>, NoMemory>
     requires symbols { AreSymbolsOf file.now symbols.now }
     requires writes { AreWriting file.now writes.now }
-    ensures { IfOk result (λ first. MatchOption first (rules.broken file.now ≡ []) (λ at. IsFirst at (rules.broken file.now))) }
+    ensures { IfOk result (λ first. first ≡ noted (rules.broken file.now) least) }
 {
-    let first = note_units(alloc, file, symbols, writes, file.units.items())?;
+    let first = note_units(alloc, least, file, symbols, writes, file.units.items())?;
     Ok(first)
 }

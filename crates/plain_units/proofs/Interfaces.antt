@@ -187,10 +187,10 @@ module _ (p : Program) (u : Unit) (e : is_column_unit u ≡ false) where
   same_body : IsPlain p u → read_stmts (reading_with None) u.body ≡ read_stmts (bare_reading p u) u.body
   same_body h =
       stmts_same (rank_in p u) (lost_place no_widening) None (λ x. written_callee p (called_in p u x)) (λ x. source_callee (called_in p u x))
-          (λ x. runs_column p u x ≡ false) (λ x. runs_column p u x ≡ false)
-          (λ x k. let none : is_column_called (called_in p u x) ≡ false = (both_false (is_column_called (called_in p u x)) (is_column_called (unit_run p (visible p u x))) k).0 in
-              (no_callee (λ v. is_some (added_dummy p v)) (called_in p u x) none, no_callee (λ v. false) (called_in p u x) none))
-          u.body h.undirected.1 h.calls
+      (λ x. runs_column p u x ≡ false) (λ x. runs_column p u x ≡ false)
+      (λ x k. let none : is_column_called (called_in p u x) ≡ false = (both_false (is_column_called (called_in p u x)) (is_column_called (unit_run p (visible p u x))) k).0 in
+      (no_callee (λ v. is_some (added_dummy p v)) (called_in p u x) none, no_callee (λ v. false) (called_in p u x) none))
+      u.body h.undirected.1 h.calls
 
   erased : IsPlain p u → erased_unit p u no_widening (regrouped u) ≡ bare_unit p u
   erased h =
