@@ -74,13 +74,16 @@ call_of_t = call_to (codes "t") (place 8 3) (place 8 8) No_more
 abbrev pub unit_t : List Stmt → Unit
 unit_t body = inside 0 (subroutine (codes "t") (place 12 14) [] [] [] body)
 
--- `s` with these statements in a module with a variable `v` and this unit `t`
-abbrev pub in_module : List Stmt → List Stmt → Program
-in_module body in_t = record {
-  modules = (module_of (codes "m") (place 1 8) [] (local (codes "v") (place 2 14) ∷ []) ∷ []);
+-- `s` with these statements in a module with a variable of this name and this unit `t`
+abbrev pub in_module_of : Text → List Stmt → List Stmt → Program
+in_module_of variable body in_t = record {
+  modules = (module_of (codes "m") (place 1 8) [] (local variable (place 2 14) ∷ []) ∷ []);
   units = (inside 0 (column_unit (define one nobody ∷ parallelize (codes "x" ∷ []) None ∷ []) (x_decl ∷ n_decl ∷ []) body) ∷ unit_t in_t ∷ []);
   order = (item.Module 0 ∷ []);
 }
+
+abbrev pub in_module : List Stmt → List Stmt → Program
+in_module = in_module_of (codes "v")
 
 -- `s` behind an empty module of this name
 abbrev pub behind_module : Text → Program
@@ -132,6 +135,7 @@ pub record RuleRows : Type 0 where
   pub other_name : Breaks (listing (codes "x" ∷ []) (Some (Some (codes "i") ∷ Some (codes "j") ∷ [])))
   -- the dimension's name
   pub dimension_declared : Breaks (of_x (x_decl ∷ n_decl ∷ local (codes "i") (place 6 14) ∷ []) (assigned (codes "x") ∷ []))
+  pub dimension_of_host : Breaks (in_module_of (codes "i") [] [])
   pub dimension_is_module : Breaks (behind_module (codes "i"))
   pub other_module : Keeps (behind_module (codes "k"))
   pub dimension_is_upper : Breaks (bounded one (Name (codes "i") (place 2 30)))
@@ -143,6 +147,7 @@ pub record RuleRows : Type 0 where
   pub suffixed_upper : Breaks (bounded one (Numeral 5 (Some I4) (place 2 30)))
   pub shared_upper : Keeps (bounded one (Name (codes "n") (place 2 30)))
   pub column_dummy_upper : Breaks (both_of_columns (Name (codes "n") (place 2 30)) (x_decl ∷ n_decl ∷ []))
+  pub module_upper : Breaks (behind_module (codes "nobody"))
   pub wide_upper : Breaks (alone (define one (Name (codes "n") (place 2 30)) ∷ parallelize (codes "x" ∷ []) None ∷ []) (x_decl ∷ declaration (codes "n") (place 5 29) I8 (Some In) [] None ∷ []) (assigned (codes "x") ∷ []))
   pub constant_upper : Keeps (alone (define one (Name (codes "p") (place 2 30)) ∷ parallelize (codes "x" ∷ []) None ∷ []) (x_decl ∷ n_decl ∷ p_decl ∷ []) (assigned (codes "x") ∷ []))
   pub unit_upper : Breaks (bounded one (Name (codes "s") (place 2 30)))
