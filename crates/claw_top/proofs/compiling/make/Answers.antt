@@ -1,9 +1,15 @@
 use Rattle.fort_tree.specs.declared.choice.Mode.TheVariants.{Source}
+use Rattle.column_rules.specs.Rules.{broken}
+use Rattle.sound_programs.proofs.SoundLaws.{left_empty}
+use Rattle.translated_programs.specs.NotBuilt.{unbuilt}
 use Rattle.claw_top.specs.Outcome.{bytes_of}
 use Rattle.claw_top.proofs.Translating.{is_translation}
 use Rattle.claw_top.proofs.compiling.make.Goals as goal
 
 -- src/compiling.rt
+pub translated-requires : goal.translated-requires
+translated-requires c = left_empty (unbuilt c.args.program.now) (broken c.args.program.now) c.requires.built
+
 pub returns-clause-compiles : goal.returns-clause-compiles
 returns-clause-compiles c = is_translation
     (record {
