@@ -2,7 +2,6 @@
 ghost use Rattle.std.specs.Prelude.{◌≡◌, [], ◌∷◌, ◌++◌, map, IfOk};
 ghost use Rattle.std.specs.Option.{option_copied, option_map};
 ghost use Rattle.claw_meaning.specs.Plain.{plain_decl, plain_unit};
-ghost use Rattle.claw_meaning.specs.Scope.{decl_named};
 ghost use Rattle.sound_programs.specs.Placing.{placed_expr, placed_sub, placed_subs};
 ghost use Rattle.sound_programs.specs.Scopes.{is_written_intent};
 ghost use Rattle.sound_programs.specs.Walks as walks;
@@ -12,8 +11,8 @@ ghost use Rattle.unit_steps.specs.Behind.{placed_step};
 ghost use Rattle.argument_faults.specs.Actuals.{actual_alone, placed_actual, placed_actuals};
 
 use fort_kinds::{Site, first, sites_of};
-use fort_names::Sight;
-use fort_tree::{Decl, Expr, Intent, Name, Named, NoMemory, Place, Sub, Unit};
+use fort_names::{Callee, Sight};
+use fort_tree::{Decl, Expr, Intent, Named, NoMemory, Place, Sub};
 use std::alloc::Global;
 use unit_steps::{Step, parts_read};
 
@@ -64,18 +63,6 @@ pub fn is_written(actual: &Actual) -> bool
     }
 }
 
-/// The first declaration of the name.
-fn declaration<'a>(decls: &'a [Decl], name: &Name) -> Option<&'a Decl>
-    ensures { option_map plain_decl (option_copied result) ≡ decl_named (map plain_decl decls.now) name.now }
-{
-    for decl in decls {
-        if decl.name == *name {
-            return Some(decl);
-        }
-    }
-    None
-}
-
 fn argument<'a>(dummy: Option<&'a Decl>, arg: &'a Sub) -> Actual<'a>
     ensures { placed_actual result ∷ [] ≡ actual_alone (option_map plain_decl (option_copied dummy.entry)) (placed_sub arg.now) }
 {
@@ -97,17 +84,17 @@ fn argument<'a>(dummy: Option<&'a Decl>, arg: &'a Sub) -> Actual<'a>
 fn matched<'a>(
     alloc: Global,
     dummies: &[Named],
-    decls: &'a [Decl],
+    callee: &Callee<'a>,
     args: &'a [Sub],
 ) -> Result<Vec<Actual<'a>>, NoMemory>
-    ensures { IfOk result (λ list. placed_actuals list.items ≡ walks.matched (map (λ d. d.name) dummies.now) (map plain_decl decls.now) (placed_subs args.now)) }
+    ensures { IfOk result (λ list. placed_actuals list.items ≡ walks.matched (map (λ d. d.name) dummies.now) (plain_unit callee.now).decls (placed_subs args.now)) }
 {
     let mut list = Vec::new(alloc);
     for (i, dummy) in dummies.iter().enumerate() {
         match args.get(i) {
             None => return Ok(list),
             Some(arg) => {
-                list.push(argument(declaration(decls, &dummy.name), arg))?;
+                list.push(argument(callee.declaration(&dummy.name), arg))?;
             }
         }
     }
@@ -120,13 +107,13 @@ fn matched<'a>(
 /// `NoMemory` only where memory was refused.
 pub fn actuals_of<'a>(
     alloc: Global,
-    unit: Option<&'a Unit>,
+    callee: Option<Callee<'a>>,
     args: &'a [Sub],
 ) -> Result<Vec<Actual<'a>>, NoMemory>
-    ensures { IfOk result (λ list. placed_actuals list.items ≡ walks.actuals_of (option_map plain_unit (option_copied unit.entry)) (placed_subs args.now)) }
+    ensures { IfOk result (λ list. placed_actuals list.items ≡ walks.actuals_of (option_map plain_unit callee) (placed_subs args.now)) }
 {
-    match unit {
+    match callee {
         None => Ok(Vec::new(alloc)),
-        Some(callee) => matched(alloc, callee.dummies.items(), callee.decls.items(), args),
+        Some(callee) => matched(alloc, callee.unit().dummies.items(), &callee, args),
     }
 }

@@ -79,7 +79,7 @@ fn note_site(
 ) -> Result<(), NoMemory>
     ensures { OnOk result (least.new ≡ noted (found E3A (named_at (means sight.now) unit.now (placed_site site.now))) least.old) }
 {
-    let list = actuals_of(alloc, sight.unit(site.name), site.args)?;
+    let list = actuals_of(alloc, sight.callee(site.name), site.args)?;
     note_actuals(least, sight, unit, list.as_slice());
     Ok(())
 }

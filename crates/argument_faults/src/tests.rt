@@ -115,17 +115,6 @@ fn argument(alloc: Global) -> Option<Seq<Sub>> {
     Some(args)
 }
 
-#[test]
-fn an_argument_for_a_dummy(rt: HostRuntime) -> Result<(), Fail> {
-    let unit = function(rt.alloc()).ok_or("no unit")?;
-    let args = argument(rt.alloc()).ok_or("no argument")?;
-    let list = actuals_of(rt.alloc(), Some(&unit), args.items())?;
-    assert_eq!(rt; list.len(), 1);
-    let actual = list.first().ok_or("none")?;
-    assert!(rt; is_written(actual));
-    Ok(())
-}
-
 fn only_file(alloc: Global) -> Option<File> {
     let mut units = Seq::new(alloc);
     units.push(function(alloc)?).ok()?;
@@ -143,8 +132,11 @@ fn one_variable_twice(rt: HostRuntime) -> Result<(), Fail> {
     assert_eq!(rt; file.units.len(), 1);
     let sight = symbols.sight_of_unit(&file, 0);
     let args = argument(rt.alloc()).ok_or("no argument")?;
-    let list = actuals_of(rt.alloc(), file.units.items().first(), args.items())?;
+    let f = Name::read(b"f").ok_or("no name")?;
+    let list = actuals_of(rt.alloc(), sight.callee(&f), args.items())?;
+    assert_eq!(rt; list.len(), 1);
     let actual = list.first().ok_or("none")?;
+    assert!(rt; is_written(actual));
     let mut least = Least::new();
     note_shared_actuals(rt.alloc(), &mut least, &sight, &[*actual, *actual])?;
     let fault = least.first().ok_or("none")?;

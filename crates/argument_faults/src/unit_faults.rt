@@ -54,8 +54,7 @@ fn note_site(
     requires { IsReached (file_of sight.now) reached.now }
     ensures { OnOk result (least.new ≡ noted (found E38 (alias_in (placed (file_of sight.now)) (means sight.now) unit.now (placed_site site.now))) least.old) }
 {
-    let callee = sight.unit(site.name);
-    let list = actuals_of(alloc, callee, site.args)?;
+    let list = actuals_of(alloc, sight.callee(site.name), site.args)?;
     let actuals = list.as_slice();
     note_shared_actuals(alloc, least, sight, actuals)?;
     note_behind_callee(least, sight, unit, reached, site.name, actuals);

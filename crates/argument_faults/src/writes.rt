@@ -128,7 +128,7 @@ fn note_passed_at(
 ) -> Result<(), NoMemory>
     ensures { OnOk result (least.new ≡ noted (found E3A (passed_at (means sight.now) (placed_site site.now))) least.old) }
 {
-    let list = actuals_of(alloc, sight.unit(site.name), site.args)?;
+    let list = actuals_of(alloc, sight.callee(site.name), site.args)?;
     note_all_passed(least, sight, list.as_slice());
     Ok(())
 }

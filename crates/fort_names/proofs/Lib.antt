@@ -13,6 +13,7 @@ pub mod IntentPlaces
 pub mod LinesAre
 pub mod HeadersAre
 pub mod Meant
+pub mod Callees
 pub mod Members
 pub mod Reaching
 pub mod Seconds

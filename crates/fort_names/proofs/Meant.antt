@@ -54,7 +54,7 @@ found_at_place {X} p (x ∷ xs) = go (p x) (place p xs) (found_at_place p xs)
 pub find_is : {X : Type 0} (p : X → Bool) (xs : List X) → find p xs ≡ option_and_then (slice_get xs) (position p xs)
 find_is p xs = found_at_place p xs ∙ ap (option_and_then (slice_get xs)) (sym (place_is p xs))
 
-find_map : {X Y : Type 0} (p : Y → Bool) (g : X → Y) (xs : List X) → find p (map g xs) ≡ option_map g (find (λ x. p (g x)) xs)
+pub find_map : {X Y : Type 0} (p : Y → Bool) (g : X → Y) (xs : List X) → find p (map g xs) ≡ option_map g (find (λ x. p (g x)) xs)
 find_map p g [] = refl
 find_map {X} {Y} p g (x ∷ xs) = go (p (g x)) (find_map p g xs)
   where

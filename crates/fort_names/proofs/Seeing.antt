@@ -153,6 +153,9 @@ unit_sight f u c is x =
     ∙ ap (λ o. or_other o (found_outside (shared_of f) u.uses (host_number f.modules (declared_of f).names u.host) x)) (decl_found home.Local (columns_of (Some u)) u.decls x)
     ∙ unit_form f u x
 
+unit_owns : (f : File) (u : tree_unit.Unit) (c : Scope) → IsUnitScope f.modules (shared_of f) u c → (x : Text) → own_found c.own c.shared.value x ≡ in_unit u x
+unit_owns f u c is x = (λ i. own_found (is.own i) (is.shared i) x) ∙ decl_found home.Local (columns_of (Some u)) u.decls x
+
 pub unit_seen : (f : File) (u : tree_unit.Unit) (x : Text) → is_some (entity_in_unit f u x) ≡ is_seen (seen (placed f) (Of_unit (placed_unit u)) x)
 unit_seen f u x =
     some_here f x (in_unit u) (entity_in (bare_program (placed f)) (Of_unit (placed_unit u)) x)
@@ -218,6 +221,7 @@ of_this_file f sy same us ms = record {
   unit_count = fits_length (λ n. IsUnitScope f.modules (shared_of f)) 0 f.units sy.units.items us.each;
   module_count = fits_length (IsModuleScope (shared_of f)) 0 f.modules sy.modules.items ms.each;
   of_units = λ n u c at found_at. unit_sight f u c (fits_at (λ k. IsUnitScope f.modules (shared_of f)) 0 f.units sy.units.items n u c us.each at found_at);
+  own_of_units = λ n u c at found_at. unit_owns f u c (fits_at (λ k. IsUnitScope f.modules (shared_of f)) 0 f.units sy.units.items n u c us.each at found_at);
   of_modules = λ n m c at found_at.
       let e : 0 + n ≡ n = omega arith in
       module_sight f n m c at (subst (λ k. IsModuleScope (shared_of f) k m c) e (fits_at (IsModuleScope (shared_of f)) 0 f.modules sy.modules.items n m c ms.each at found_at));

@@ -5,6 +5,7 @@ pub mod Links
 pub mod Sharing
 pub mod Finding
 pub mod Scoping
+pub mod Callees
 pub mod Leasts
 pub mod FoundAt
 pub mod UsePlaces

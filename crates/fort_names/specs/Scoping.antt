@@ -11,9 +11,9 @@ use Rattle.fort_names.specs.declared.scope.Own.TheVariants.{Declared, OfModule}
 use Rattle.fort_names.specs.declared.scope.Scope.{Scope}
 use Rattle.fort_names.specs.declared.shared.Shared.{Shared}
 use Rattle.fort_names.specs.declared.symbols.Symbols.{Symbols}
-use Rattle.fort_names.specs.Entities.{entity_in_unit, entity_in_module}
+use Rattle.fort_names.specs.Entities.{entity_in_unit, entity_in_module, in_unit}
 use Rattle.fort_names.specs.Tables.{table_of, columns_of}
-use Rattle.fort_names.specs.Finding.{found}
+use Rattle.fort_names.specs.Finding.{found, own_found}
 use Rattle.fort_names.specs.Sharing.{shared_of}
 
 -- the number of the first module that has the name of the module of this number
@@ -45,10 +45,11 @@ pub record UnitScopes (ms : List tree_module.Module) (s : Shared) (us : List tre
 pub record ModuleScopes (s : Shared) (ms : List tree_module.Module) (cs : List Scope) : Type 0 where
   pub each : AllFit (IsModuleScope s) 0 ms cs
 
--- In the scope of each unit and module there is found under each name just the entity that it is there.
+-- In the scope of each unit and module there is found under each name just the entity that it is there, and a unit's own are its declarations.
 pub record AreSymbolsOf (f : File) (s : Symbols) : Type 0 where
   pub shared : s.shared.value ≡ shared_of f
   pub unit_count : length s.units.items ≡ length f.units
   pub module_count : length s.modules.items ≡ length f.modules
   pub of_units : (n : ℕ) (u : tree_unit.Unit) (c : Scope) → slice_get f.units n ≡ Some u → slice_get s.units.items n ≡ Some c → (x : Text) → found c x ≡ entity_in_unit f u x
+  pub own_of_units : (n : ℕ) (u : tree_unit.Unit) (c : Scope) → slice_get f.units n ≡ Some u → slice_get s.units.items n ≡ Some c → (x : Text) → own_found c.own c.shared.value x ≡ in_unit u x
   pub of_modules : (n : ℕ) (m : tree_module.Module) (c : Scope) → slice_get f.modules n ≡ Some m → slice_get s.modules.items n ≡ Some c → (x : Text) → found c x ≡ entity_in_module f n m x

@@ -7,8 +7,10 @@ use Rattle.fort_names.specs.declared.entity.Entity.{Entity}
 use Rattle.fort_names.specs.declared.shared.Shared.{Shared}
 use Rattle.fort_names.specs.declared.spot.Spot.{Spot}
 use Rattle.fort_names.specs.declared.spot.Spot.TheVariants.{InUnit, InModule}
+use Rattle.fort_names.specs.declared.symbols.Symbols.{Symbols}
 use Rattle.fort_names.specs.Entities.{entity_in_unit}
 use Rattle.fort_names.specs.Finding.{found, found_outside}
+use Rattle.fort_names.specs.Scoping.{AreSymbolsOf}
 use Rattle.fort_names.specs.Sharing.{shared_of}
 use Rattle.fort_names.specs.Sights.{From, From_unit, From_module, Seeing}
 
@@ -35,3 +37,8 @@ entity_at f (InModule n m) x = found_outside (shared_of f) [] (position (bytes_e
 -- it is found under each name
 pub record Finds (f : File) (s : Shared) (at : Spot) : Type 0 where
   pub each : (x : Text) → found_at s at x ≡ entity_at f at x
+
+-- by the symbols of the file
+pub record Sees (f : File) (s : Symbols) (at : Spot) : Type 0 where
+  pub symbols : AreSymbolsOf f s
+  pub finds : Finds f s.shared.value at

@@ -1,6 +1,7 @@
 //! What each name of a program is: lists of different names, the entity that a name is in each scope, and the faults of names.
 #![tactic(auto)]
 
+mod callee;
 mod clashes;
 mod columns;
 mod cycles;
@@ -28,6 +29,7 @@ mod tests;
 mod used_names;
 mod uses;
 
+pub use callee::Callee;
 pub use clashes::{note_clashes, note_dummies, note_headers};
 pub use columns::is_named;
 pub use cycles::note_cycles;

@@ -1,13 +1,11 @@
 //! What a name means.
-ghost use Rattle.std.specs.Prelude.{◌≡◌, map, is_some};
+ghost use Rattle.std.specs.Prelude.{◌≡◌, is_some};
 ghost use Rattle.std.specs.Option.{option_copied};
-ghost use Rattle.claw_meaning.specs.Plain.{plain_unit, plain_decl};
-ghost use Rattle.claw_meaning.specs.Scope.{decl_named};
-ghost use Rattle.sound_programs.specs.Kinding as kinding;
+ghost use Rattle.claw_meaning.specs.Plain.{plain_unit};
 ghost use Rattle.fort_names.specs.Meanings.{meaning_of, name_of_home, variable_of, constant_of, unit_at, meant, IsNumbered};
 
 use crate::entity::{Entity, Home, Sort};
-use fort_tree::{Decl, File, Kind, Name, Unit};
+use fort_tree::{Decl, File, Name, Unit};
 
 /// What a name means.
 #[derive(Clone, Copy)]
@@ -76,28 +74,6 @@ pub fn meaning_of_entity<'a>(file: &'a File, own: Name, entity: Option<&'a Entit
             Sort::Unit => unit_of(file, one.index),
             Sort::Module => Meaning::Nothing,
         },
-    }
-}
-
-/// The kind of the first declaration of the name.
-fn declared_kind(decls: &[Decl], name: &Name) -> Option<Kind>
-    ensures { result ≡ kinding.kind_of_decl (decl_named (map plain_decl decls.now) name.now) }
-{
-    for decl in decls {
-        if decl.name == *name {
-            return Some(decl.kind);
-        }
-    }
-    None
-}
-
-/// The kind of a function's result; a SUBROUTINE has none.
-pub fn result_kind(unit: &Unit) -> Option<Kind>
-    ensures { result ≡ kinding.kind_of_result (plain_unit unit.now).result (plain_unit unit.now) }
-{
-    match &unit.result {
-        None => None,
-        Some(named) => declared_kind(unit.decls.items(), &named.name),
     }
 }
 

@@ -30,7 +30,8 @@ pub struct Scope {
     pub shared: Rc<Shared>,
 }
 
-fn find_own<'a>(own: &'a Own, shared: &'a Shared, name: &Name) -> Option<&'a Entity>
+/// What a scope declares itself under the name.
+pub fn find_own<'a>(own: &'a Own, shared: &'a Shared, name: &Name) -> Option<&'a Entity>
     ensures { option_copied result ≡ own_found own.now shared.now name.now }
 {
     match own {

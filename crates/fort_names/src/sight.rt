@@ -1,7 +1,7 @@
 //! A file seen from a unit or a module.
+use crate::callee::{Callee, result_kind};
 use crate::columns::{has_dimensions, is_in};
-use crate::meaning::{Meaning, has_result, meaning_of_entity, result_kind};
-use crate::shared::Shared;
+use crate::meaning::{Meaning, has_result, meaning_of_entity};
 use crate::spot::{Spot, find_at};
 use crate::symbols::Symbols;
 use fort_tree::{Decl, File, Kind, Name, Unit};
@@ -11,7 +11,7 @@ use std::marker::Model;
 #[derive(Drop)]
 pub struct Sight<'a> {
     file: &'a File,
-    shared: &'a Shared,
+    symbols: &'a Symbols,
     spot: Spot<'a>,
 }
 
@@ -26,15 +26,15 @@ impl<'a> Model for Sight<'a> {
 
     ghost coded = { Prim.hlevel (codes, tree_file.the_row.coded, tree_module.the_row.coded, tree_unit.the_row.coded) };
 
-    ghost use Rattle.fort_names.specs.Spots.{seeing, Finds};
+    ghost use Rattle.fort_names.specs.Spots.{seeing, Sees};
 
     ghost view = { λ s. seeing s.file.now s.spot };
 
-    ghost invariant = { λ s. Finds s.file.now s.shared.now s.spot };
+    ghost invariant = { λ s. Sees s.file.now s.symbols.now s.spot };
 }
 
 impl<'a> Sight<'a> {
-    ghost use Rattle.std.specs.Prelude.{◌≡◌, slice_get};
+    ghost use Rattle.std.specs.Prelude.{◌≡◌, Some, slice_get};
     ghost use Rattle.std.specs.Option.{option_copied, option_map, option_and_then};
     ghost use Rattle.claw_meaning.specs.Plain.{plain_unit, plain_decl};
     ghost use Rattle.sound_programs.specs.Kinding.{kind_of_entity};
@@ -51,8 +51,19 @@ impl<'a> Sight<'a> {
         meaning_of_entity(
             self.file,
             self.spot.name(),
-            find_at(self.shared, self.spot, name),
+            find_at(self.symbols.shared(), self.spot, name),
         )
+    }
+
+    /// The unit of this number.
+    fn numbered(&self, number: usize, unit: &'a Unit) -> Callee<'a>
+        requires { slice_get (file_of self.now).units number ≡ Some unit.now }
+        ensures { result ≡ unit.now }
+    {
+        Callee {
+            unit,
+            scope: self.symbols.scope(number),
+        }
     }
 
     /// The kind of a variable, of a PARAMETER or of a function's result.
@@ -63,7 +74,7 @@ impl<'a> Sight<'a> {
             Meaning::Nothing => None,
             Meaning::Variable(_, decl) => Some(decl.kind),
             Meaning::Constant(decl) => Some(decl.kind),
-            Meaning::Unit(_, unit) => result_kind(unit),
+            Meaning::Unit(number, unit) => result_kind(&self.numbered(number, unit)),
         }
     }
 
@@ -160,6 +171,18 @@ impl<'a> Sight<'a> {
         }
     }
 
+    /// The unit that the name is, with its declarations by name.
+    pub fn callee(&self, name: &Name) -> Option<Callee<'a>>
+        ensures { option_map plain_unit result ≡ scopes.unit_of (means self.now name.now) }
+    {
+        match self.meaning(name) {
+            Meaning::Nothing => None,
+            Meaning::Variable(_, _) => None,
+            Meaning::Constant(_) => None,
+            Meaning::Unit(number, unit) => Some(self.numbered(number, unit)),
+        }
+    }
+
     /// The number in the file of the unit that the name is.
     pub fn unit_number(&self, name: &Name) -> Option<usize>
         ensures { option_map plain_unit (option_and_then (slice_get (file_of self.now).units) result) ≡ scopes.unit_of (means self.now name.now) }
@@ -217,7 +240,7 @@ impl Symbols {
         let spot = Spot::InUnit(self.scope(unit), &file.units.items()[unit]);
         Sight {
             file,
-            shared: self.shared(),
+            symbols: self,
             spot,
         }
     }
@@ -232,7 +255,7 @@ impl Symbols {
         let spot = Spot::InModule(number, &file.modules.items()[number]);
         Sight {
             file,
-            shared: self.shared(),
+            symbols: self,
             spot,
         }
     }

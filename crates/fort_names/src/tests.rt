@@ -188,6 +188,9 @@ fn what_names_mean(rt: HostRuntime) -> Result<(), Fail> {
         assert!(rt; sight.is_subroutine(&s) && !sight.is_function(&s));
         assert!(rt; !sight.is_array(&k) && !sight.is_in_dummy(&k));
         assert!(rt; sight.unit(&s).is_some() && sight.decl(&s).is_none());
+        let callee = sight.callee(&s).ok_or("none")?;
+        assert_eq!(rt; callee.unit().name, s);
+        assert!(rt; callee.declaration(&k).is_some() && callee.declaration(&n).is_none());
     }
     for number in 0..file.modules.len() {
         let sight = symbols.sight_of_module(&file, number);

@@ -1,8 +1,8 @@
 -- What lines add to one another.
-use Rattle.std.proofs.Common.{◌≡◌, ℕ, ◌+◌, ◌*◌, ◌≤◌, Bool, true, false, cond, not, ◌&&◌, List, [], ◌∷◌, ◌++◌, ◌<◌, get_or, take, map, length, Option, Result, None, Some, Ok, Err, refl, sym, ap, ◌∙◌, subst, append_assoc, arith, length-append}
+use Rattle.std.proofs.Common.{◌≡◌, ℕ, ◌+◌, ◌≤◌, Bool, true, false, cond, not, ◌&&◌, List, [], ◌∷◌, ◌++◌, ◌<◌, get_or, take, map, length, Option, Result, None, Some, Ok, Err, refl, sym, ap, ◌∙◌, subst, append_assoc, arith, length-append}
 use Rattle.std.specs.List.{list_all}
 use Rattle.std.specs.Result.{OnOk}
-use Rattle.std.proofs.lemmas.List.{append-nil, map-append, length-map, take_more}
+use Rattle.std.proofs.lemmas.List.{append-nil, map-append, take_more}
 use Rattle.std.proofs.lemmas.Bool.{false≢true, and_parts}
 use Rattle.fort_tree.specs.declared.choice.Mode.{Mode}
 use Rattle.fort_tree.specs.declared.fault.Fault.{Fault}
@@ -13,7 +13,7 @@ use Rattle.fort_tree.specs.declared.statement.Token.{Token}
 use Rattle.fort_tree.specs.declared.stmt.Directive.{Directive}
 use Rattle.fort_tree.specs.declared.stmt.DirectiveWord.{DirectiveWord}
 use Rattle.fort_tree.specs.declared.place.Place.{Place}
-use Rattle.sound_programs.specs.Forms.{Form, says, Directs}
+use Rattle.sound_programs.specs.Forms.{Form, Says, says, Directs}
 use Rattle.sound_programs.specs.Nesting.{Nests}
 use Rattle.fort_tree.specs.declared.unit.File.{File}
 use Rattle.fort_stmt.specs.declared.sort.Sort.{Sort}
@@ -22,7 +22,7 @@ use Rattle.claw_lines.specs.Forms as directive_line
 use Rattle.fort_stmt.specs.Sort.{sort_of}
 use Rattle.fort_stmt.specs.Verdict as verdict
 use Rattle.form_nesting.specs.declared.form.Form.TheVariants as given_form
-use Rattle.form_nesting.specs.Forms.{form_of}
+use Rattle.form_nesting.specs.Forms.{form_of, statements_among}
 use Rattle.fort_units.specs.declared.around.Around.{Around}
 use Rattle.fort_units.specs.declared.gathering.Gathered.{Gathered}
 use Rattle.fort_units.specs.declared.item.Item.{Item}
@@ -157,7 +157,7 @@ all_plain mode o (i ∷ is) h =
 pub record Agrees (lines : List Line) (items : List Item) (forms : List Form) : Type 0 where
   pub same : items ≡ items_of forms
   pub formed : list_all is_form forms ≡ true
-  pub few : length forms ≤ 2 * length lines
+  pub few : statements_among forms ≤ length lines
 
 not_within : (b : Bool) → not b ≡ true → b ≡ false
 not_within true h = absurd (false≢true h)
@@ -173,22 +173,20 @@ all_directives : (ds : List Directive) → list_all is_form (map Directs ds) ≡
 all_directives [] = refl
 all_directives (d ∷ ds) = all_directives ds
 
-two_at_most : {line : Line} {ds : List Directive} → directive_line.Directs line ds → length (map Directs ds) ≤ 2
-two_at_most h = two_so h.form
-  where
-    asks_two : {at : Place} {w : DirectiveWord} {tokens : List Token} {ds : List Directive} → directive_line.Asks at w tokens ds → length (map Directs ds) ≤ 2
-    asks_two (directive_line.dimension d) = omega arith
-    asks_two (directive_line.both d b p) = omega arith
-    asks_two (directive_line.of_parts e p w) = omega arith
+no_statements : (ds : List Directive) → statements_among (map Directs ds) ≡ 0
+no_statements [] = refl
+no_statements (d ∷ ds) = no_statements ds
 
-    two_so : {at : Place} {tokens : List Token} {ds : List Directive} → directive_line.IsLine at tokens ds → length (map Directs ds) ≤ 2
-    two_so (directive_line.asked b a) = asks_two a
+among_both : (a b : List Form) → statements_among (a ++ b) ≡ statements_among a + statements_among b
+among_both [] b = refl
+among_both (Says at level ∷ a) b = omega (arith, among_both a b)
+among_both (Directs d ∷ a) b = among_both a b
 
 agrees_line : (line : Line) (is : List Item) (fs : List Fault) (hs : List Form) → HasLine line is fs hs → fs ≡ [] → list_all plain is ≡ true → Agrees (line ∷ []) is hs
 agrees_line line is fs hs (nothing d e) none p = record { same = refl; formed = refl; few = omega arith }
 agrees_line line is fs hs (whole {s = s} d a) none p = record { same = refl; formed = both (is_form (says line.at s)) true (well_formed a.0.spelled) refl; few = omega arith }
 agrees_line line is fs hs (faulty d a i) none p = absurd (nonempty none)
-agrees_line line is fs hs (directs {directives = ds} d a) none p = record { same = same_directives line.within ds p; formed = all_directives ds; few = omega (arith, two_at_most a) }
+agrees_line line is fs hs (directs {directives = ds} d a) none p = record { same = same_directives line.within ds p; formed = all_directives ds; few = omega (arith, no_statements ds) }
 agrees_line line is fs hs (unread d n) none p = absurd (nonempty none)
 
 all_front : (p : Item → Bool) (a b : List Item) → list_all p (a ++ b) ≡ true → (list_all p a ≡ true) × (list_all p b ≡ true)
@@ -208,7 +206,7 @@ agrees (line ∷ lines) is fs hs (a_line {is = i} {js = js} {fs = f} {gs = gs} {
     record {
       same = ap (λ v. v ++ js) x.same ∙ (ap (λ v. items_of h ++ v) y.same ∙ sym (map-append item_of h ks));
       formed = all_append is_form h ks x.formed y.formed;
-      few = omega (arith, length-append h ks, x.few, y.few);
+      few = omega (arith, among_both h ks, x.few, y.few);
     }
 
 -- ---- Steps of the code
@@ -262,10 +260,10 @@ nests_so lines g mode items nesting have m i n e =
     faultless_nest mode (map form_of g.forms) a.formed (subst (λ v. faults v (items_of (map form_of g.forms)) ≡ []) (sym m) (subst (λ is. faults (mode_of lines) is ≡ []) a.same parts.1))
 
 pub few_so : (lines : List Line) (g : Gathered) (mode : Mode) (items : List Item) (nesting : Option Fault) → Gathers lines g → mode ≡ mode_of lines → items ≡ g.items →
-    FirstOf nesting (faults mode items) → None ≡ first_of g.least.first nesting → length g.forms ≤ 2 * length lines
+    FirstOf nesting (faults mode items) → None ≡ first_of g.least.first nesting → statements_among (map form_of g.forms) ≤ length lines
 few_so lines g mode items nesting have m i n e =
     let a = agreed lines g have (no_faults lines g mode items nesting have m i n e) in
-    subst (λ k. k ≤ 2 * length lines) (length-map g.forms form_of) a.few
+    a.few
 
 pub is_program : (lines : List Line) (g : Gathered) (mode : Mode) (items : List Item) (nesting : Option Fault) (file : File) → Gathers lines g → mode ≡ mode_of lines → items ≡ g.items →
     FirstOf nesting (faults mode items) → None ≡ first_of g.least.first nesting → Nests mode (map form_of g.forms) file → IsProgram lines file

@@ -31,7 +31,7 @@ fn first_of(first: Option<Fault>, other: Option<Fault>) -> Option<Fault>
 }
 
 fn read(alloc: Global, lines: &[Line]) -> Result<File, Stop>
-    requires { length lines.now < 2 ^ 31 }
+    requires { length lines.now < 2 ^ 32 }
     ensures { program.Answers lines.now result }
 {
     let gathered = gather(alloc, lines)?;
@@ -45,14 +45,14 @@ fn read(alloc: Global, lines: &[Line]) -> Result<File, Stop>
 
 /// The program that the lines of all files are, in the order of files and lines: each line is a statement, a directive or a mark of its own form, and they nest
 /// (ISO/IEC 1539-1:2018 clauses 5, 8, 9, 11, 14 and 15, cut down to this project's profile; directives, marks, limits and codes are this project's own). The lines
-/// are all of one mode, and fewer than 2 to the power of 31.
+/// are all of one mode, and fewer than 2 to the power of 32.
 ///
 /// # Errors
 /// - `Stop::Fault` with the first fault of syntax, exactly where there is one: of the faults of nesting and the first fault of each line by itself that with the
 ///   least file, line and column, and at one place with the smallest code.
 /// - `Stop::NoMemory` only where memory was refused.
 pub fn file(alloc: Global, lines: &Seq<Line>) -> Result<File, Stop>
-    requires { length lines.now < 2 ^ 31 }
+    requires { length lines.now < 2 ^ 32 }
     ensures { program.Answers lines.now result }
 {
     read(alloc, lines.items())

@@ -1,7 +1,7 @@
 //! Actual arguments and their dummies.
 ghost use Rattle.std.specs.Prelude.{◌≡◌, ◌∷◌, ◌||◌, ◌&&◌, not, nat_eq, nat_lt, length, List, Some, map, flat_map};
 ghost use Rattle.std.specs.Option.{option_copied, option_map};
-ghost use Rattle.claw_meaning.specs.Plain.{plain_decl};
+ghost use Rattle.claw_meaning.specs.Plain.{plain_decl, plain_unit};
 ghost use Rattle.claw_meaning.specs.Scope.{decl_named};
 ghost use Rattle.claw_meaning.specs.Syntax.{Text};
 ghost use Rattle.fort_tree.specs.declared.fault.Code.TheVariants.{E32, E33};
@@ -19,7 +19,7 @@ ghost use Rattle.fort_kinds.specs.Sites.{placed_site, placed_sites};
 
 use crate::rank_parts::takes_sections;
 use fort_kinds::{Site, first, kind_of, rank_of};
-use fort_names::{Least, Sight};
+use fort_names::{Callee, Least, Sight};
 use fort_tree::{Code, Decl, Expr, Name, Named, Sub};
 
 /// In what an actual argument is to fit its dummy.
@@ -27,18 +27,6 @@ use fort_tree::{Code, Decl, Expr, Name, Named, Sub};
 pub enum Fit {
     Kind,
     Rank,
-}
-
-/// The first declaration of the name.
-fn find_decl<'a>(decls: &'a [Decl], name: &Name) -> Option<&'a Decl>
-    ensures { option_map plain_decl (option_copied result) ≡ decl_named (map plain_decl decls.now) name.now }
-{
-    for decl in decls {
-        if decl.name == *name {
-            return Some(decl);
-        }
-    }
-    None
 }
 
 fn kind_differs(sight: &Sight, expr: &Expr, dummy: Option<&Decl>) -> bool
@@ -99,17 +87,17 @@ fn note_expr(least: &mut Least, sight: &Sight, fit: Fit, expr: &Expr, dummy: Opt
 }
 
 #[tactic(auto, using(fort_names::proofs::FirstOf::noted_places))]
-fn note_next(least: &mut Least, sight: &Sight, fit: Fit, expr: &Expr, dummy: &Name, decls: &[Decl])
-    ensures { (rest : List Actual) → noted (found (code_of_fit fit) (flat_map (unfit (means sight.now) fit) rest)) least.new ≡ noted (found (code_of_fit fit) (flat_map (unfit (means sight.now) fit) (actual (Some (placed_expr expr.now)) (first_place (placed_expr expr.now)) (decl_named (map plain_decl decls.now) dummy.now) ∷ rest))) least.old }
+fn note_next(least: &mut Least, sight: &Sight, fit: Fit, expr: &Expr, dummy: &Name, callee: &Callee<'_>)
+    ensures { (rest : List Actual) → noted (found (code_of_fit fit) (flat_map (unfit (means sight.now) fit) rest)) least.new ≡ noted (found (code_of_fit fit) (flat_map (unfit (means sight.now) fit) (actual (Some (placed_expr expr.now)) (first_place (placed_expr expr.now)) (decl_named (plain_unit callee.now).decls dummy.now) ∷ rest))) least.old }
 {
-    note_expr(least, sight, fit, expr, find_decl(decls, dummy));
+    note_expr(least, sight, fit, expr, callee.declaration(dummy));
 }
 
-fn note_actual(least: &mut Least, sight: &Sight, fit: Fit, dummy: &Name, decls: &[Decl], arg: &Sub)
-    ensures { (xs : List Text) (rest : Subscripts) → noted (found (code_of_fit fit) (flat_map (unfit (means sight.now) fit) (matched xs (map plain_decl decls.now) rest))) least.new ≡ noted (found (code_of_fit fit) (flat_map (unfit (means sight.now) fit) (matched (dummy.now ∷ xs) (map plain_decl decls.now) (placed_sub arg.now rest)))) least.old }
+fn note_actual(least: &mut Least, sight: &Sight, fit: Fit, dummy: &Name, callee: &Callee<'_>, arg: &Sub)
+    ensures { (xs : List Text) (rest : Subscripts) → noted (found (code_of_fit fit) (flat_map (unfit (means sight.now) fit) (matched xs (plain_unit callee.now).decls rest))) least.new ≡ noted (found (code_of_fit fit) (flat_map (unfit (means sight.now) fit) (matched (dummy.now ∷ xs) (plain_unit callee.now).decls (placed_sub arg.now rest)))) least.old }
 {
     match arg {
-        Sub::One(expr) => note_next(least, sight, fit, expr, dummy, decls),
+        Sub::One(expr) => note_next(least, sight, fit, expr, dummy, callee),
         Sub::Range(..) => {}
     }
 }
@@ -120,30 +108,30 @@ fn note_actuals(
     sight: &Sight,
     fit: Fit,
     dummies: &[Named],
-    decls: &[Decl],
+    callee: &Callee<'_>,
     args: &[Sub],
 )
-    ensures { least.new ≡ noted (found (code_of_fit fit) (flat_map (unfit (means sight.now) fit) (matched (map (λ d. d.name) dummies.now) (map plain_decl decls.now) (placed_subs args.now)))) least.old }
+    ensures { least.new ≡ noted (found (code_of_fit fit) (flat_map (unfit (means sight.now) fit) (matched (map (λ d. d.name) dummies.now) (plain_unit callee.now).decls (placed_subs args.now)))) least.old }
 {
     for (i, dummy) in dummies.iter().enumerate() {
         if args.len() <= i {
             return;
         }
-        note_actual(least, sight, fit, &dummy.name, decls, &args[i]);
+        note_actual(least, sight, fit, &dummy.name, callee, &args[i]);
     }
 }
 
 fn note_site(least: &mut Least, sight: &Sight, fit: Fit, site: &Site)
     ensures { least.new ≡ noted (found (code_of_fit fit) (flat_map (unfit (means sight.now) fit) (actuals (means sight.now) (placed_site site.now)))) least.old }
 {
-    match sight.unit(site.name) {
+    match sight.callee(site.name) {
         None => {}
-        Some(unit) => note_actuals(
+        Some(callee) => note_actuals(
             least,
             sight,
             fit,
-            unit.dummies.items(),
-            unit.decls.items(),
+            callee.unit().dummies.items(),
+            &callee,
             site.args,
         ),
     }

@@ -4,6 +4,8 @@
 #![tactic(auto)]
 
 mod laws;
+#[cfg(test)]
+mod tests;
 
 pub use laws::{
     a_printable_program, bodies_nest_again, expressions_are_read, files_nest_again,

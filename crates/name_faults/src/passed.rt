@@ -1,7 +1,7 @@
 //! Names that a step passes to OUT or INOUT.
 ghost use Rattle.std.specs.Prelude.{◌≡◌, List, [], ◌∷◌, ◌++◌, map, is_none, ◌&&◌, if◌then◌else◌, IfOk, OnOk};
 ghost use Rattle.fort_tree.specs.Intrinsic.{intrinsic_named};
-ghost use Rattle.claw_meaning.specs.Plain.{plain_unit, plain_decl};
+ghost use Rattle.claw_meaning.specs.Plain.{plain_unit};
 ghost use Rattle.claw_meaning.specs.Scope.{decl_named};
 ghost use Rattle.claw_meaning.specs.Syntax.{Text};
 ghost use Rattle.sound_programs.specs.Placed.{Subscripts};
@@ -13,8 +13,8 @@ ghost use Rattle.unit_steps.specs.Behind.{exprs, placed_step};
 ghost use Rattle.name_faults.specs.Passing.{written_in, written_names, written_at_all, written_by, passed_names};
 
 use crate::loop_names::name_in;
-use fort_names::Sight;
-use fort_tree::{ByName, Decl, Expr, Intent, Intrinsic, Name, Named, NoMemory, Sub, Unit};
+use fort_names::{Callee, Sight};
+use fort_tree::{ByName, Expr, Intent, Intrinsic, Name, Named, NoMemory, Sub};
 use std::alloc::Global;
 use unit_steps::Step;
 
@@ -30,15 +30,13 @@ fn is_out(intent: &Option<Intent>) -> bool
 }
 
 /// Whether the first declaration of the name is that of an OUT or INOUT dummy.
-fn is_written(decls: &[Decl], name: &Name) -> bool
-    ensures { result ≡ walks.is_written_decl (decl_named (map plain_decl decls.now) name.now) }
+fn is_written(callee: &Callee<'_>, name: &Name) -> bool
+    ensures { result ≡ walks.is_written_decl (decl_named (plain_unit callee.now).decls name.now) }
 {
-    for decl in decls {
-        if decl.name == *name {
-            return is_out(&decl.intent);
-        }
+    match callee.declaration(name) {
+        None => false,
+        Some(decl) => is_out(&decl.intent),
     }
-    false
 }
 
 /// Adds the name that the expression is or refers to, where that holds.
@@ -55,27 +53,32 @@ fn note_name_if(holds: bool, expr: &Expr, into: &mut Vec<Named>) -> Result<(), N
 
 /// Adds the name that is passed to the dummy, if it is OUT or INOUT.
 fn note_actual(
-    decls: &[Decl],
+    callee: &Callee<'_>,
     dummy: &Name,
     sub: &Sub,
     into: &mut Vec<Named>,
 ) -> Result<(), NoMemory>
-    ensures { OnOk result ((xs : List Text) (rest : Subscripts) → into.new.items ++ written_names xs (map plain_decl decls.now) rest ≡ into.old.items ++ written_names (dummy.now ∷ xs) (map plain_decl decls.now) (placed_sub sub.now rest)) }
+    ensures { OnOk result ((xs : List Text) (rest : Subscripts) → into.new.items ++ written_names xs (plain_unit callee.now).decls rest ≡ into.old.items ++ written_names (dummy.now ∷ xs) (plain_unit callee.now).decls (placed_sub sub.now rest)) }
 {
     match sub {
-        Sub::One(expr) => note_name_if(is_written(decls, dummy), expr, into),
+        Sub::One(expr) => note_name_if(is_written(callee, dummy), expr, into),
         Sub::Range(..) => Ok(()),
     }
 }
 
-/// Adds the names that are passed to OUT or INOUT dummies of the unit.
-fn note_written(unit: &Unit, args: &[Sub], into: &mut Vec<Named>) -> Result<(), NoMemory>
-    ensures { OnOk result (into.new.items ≡ into.old.items ++ written_names (plain_unit unit.now).dummies (plain_unit unit.now).decls (placed_subs args.now)) }
+/// Adds the names that are passed to those of these dummies that are OUT or INOUT.
+fn note_written(
+    dummies: &[Named],
+    callee: &Callee<'_>,
+    args: &[Sub],
+    into: &mut Vec<Named>,
+) -> Result<(), NoMemory>
+    ensures { OnOk result (into.new.items ≡ into.old.items ++ written_names (map (λ d. d.name) dummies.now) (plain_unit callee.now).decls (placed_subs args.now)) }
 {
-    for (index, dummy) in unit.dummies.items().iter().enumerate() {
+    for (index, dummy) in dummies.iter().enumerate() {
         match args.get(index) {
             None => return Ok(()),
-            Some(sub) => note_actual(unit.decls.items(), &dummy.name, sub, into)?,
+            Some(sub) => note_actual(callee, &dummy.name, sub, into)?,
         }
     }
     Ok(())
@@ -90,9 +93,9 @@ fn note_site(
 ) -> Result<(), NoMemory>
     ensures { OnOk result (into.new.items ≡ into.old.items ++ written_in (walks.actuals_of (scopes.unit_of (means sight.now name.now)) (placed_subs args.now))) }
 {
-    match sight.unit(name) {
+    match sight.callee(name) {
         None => Ok(()),
-        Some(unit) => note_written(unit, args, into),
+        Some(callee) => note_written(callee.unit().dummies.items(), &callee, args, into),
     }
 }
 

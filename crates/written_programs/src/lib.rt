@@ -5,6 +5,8 @@
 #![tactic(auto)]
 
 mod laws;
+#[cfg(test)]
+mod tests;
 
 pub use laws::{
     column_units_can_be_written, plain_units_can_be_written, programs_can_be_written,

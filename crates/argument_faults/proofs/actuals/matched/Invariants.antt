@@ -7,5 +7,5 @@ use Rattle.argument_faults.proofs.actuals.matched.Given as goal
 
 abbrev pub invariant-loop-i : goal.invariant-loop-i
 invariant-loop-i l =
-    placed_actuals l.list.items ++ walks.matched (map (λ d. d.name) (drop l.i l.dummies)) (map plain_decl l.decls) (placed_subs (drop l.i l.args))
-    ≡ walks.matched (map (λ d. d.name) l.dummies) (map plain_decl l.decls) (placed_subs l.args)
+    placed_actuals l.list.items ++ walks.matched (map (λ d. d.name) (drop l.i l.dummies)) (map plain_decl l.callee.decls) (placed_subs (drop l.i l.args))
+    ≡ walks.matched (map (λ d. d.name) l.dummies) (map plain_decl l.callee.decls) (placed_subs l.args)

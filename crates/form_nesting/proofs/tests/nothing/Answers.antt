@@ -1,10 +1,13 @@
-use Rattle.std.proofs.Common.{List, [], map, subst, sym}
+use Rattle.std.proofs.Common.{◌<◌, ◌^◌, List, [], map, subst, sym, arith}
 use Rattle.fort_tree.specs.declared.choice.Mode.TheVariants.{Source}
 use Rattle.fort_tree.specs.declared.unit.File.{File}
 use Rattle.sound_programs.specs.Nesting.{Nests, no_more}
 use Rattle.form_nesting.specs.declared.form.Form.{Form}
-use Rattle.form_nesting.specs.Forms.{form_of}
+use Rattle.form_nesting.specs.Forms.{form_of, statements_among}
 use Rattle.form_nesting.proofs.tests.nothing.Goals as goal
+
+pub nested-requires-clause-few : goal.nested-requires-clause-few
+nested-requires-clause-few g c = subst (λ (forms : List Form). statements_among (map form_of forms) < 2 ^ 32) (sym c.new.ensures) (omega arith)
 
 pub nested-requires-clause-nest : goal.nested-requires-clause-nest
 nested-requires-clause-nest g c =

@@ -14,6 +14,6 @@ use Rattle.kind_faults.proofs.actuals.note_actual.Goals as goal
 -- src/actuals.rt
 pub returns-in-One : goal.returns-in-One
 returns-in-One c =
-    λ (xs : List Text) (rest : Subscripts). c.note_next.ensures (matched xs (map plain_decl c.args.decls.now) rest)
-    ∙ ap (λ (s : Subscripts). noted (found (code_of_fit c.args.fit) (flat_map (unfit (means c.args.sight.now) c.args.fit) (matched (c.args.dummy.now ∷ xs) (map plain_decl c.args.decls.now) s))) c.args.least.now)
+    λ (xs : List Text) (rest : Subscripts). c.note_next.ensures (matched xs (map plain_decl c.args.callee.now.decls) rest)
+    ∙ ap (λ (s : Subscripts). noted (found (code_of_fit c.args.fit) (flat_map (unfit (means c.args.sight.now) c.args.fit) (matched (c.args.dummy.now ∷ xs) (map plain_decl c.args.callee.now.decls) s))) c.args.least.now)
     (sym (of_alone c.args.arg.now c.in-One.expr c.in-One.is rest))

@@ -12,5 +12,5 @@ use Rattle.kind_faults.proofs.actuals.note_actuals.Given as goal
 
 abbrev pub invariant-loop-i : goal.invariant-loop-i
 invariant-loop-i l =
-    noted (found (code_of_fit l.fit) (flat_map (unfit (means l.sight) l.fit) (matched (map (λ (d : Named). d.name) (drop l.i l.dummies)) (map plain_decl l.decls) (placed_subs (drop l.i l.args))))) l.least
-    ≡ noted (found (code_of_fit l.fit) (flat_map (unfit (means l.sight) l.fit) (matched (map (λ (d : Named). d.name) l.dummies) (map plain_decl l.decls) (placed_subs l.args)))) l.fn.least
+    noted (found (code_of_fit l.fit) (flat_map (unfit (means l.sight) l.fit) (matched (map (λ (d : Named). d.name) (drop l.i l.dummies)) (map plain_decl l.callee.decls) (placed_subs (drop l.i l.args))))) l.least
+    ≡ noted (found (code_of_fit l.fit) (flat_map (unfit (means l.sight) l.fit) (matched (map (λ (d : Named). d.name) l.dummies) (map plain_decl l.callee.decls) (placed_subs l.args)))) l.fn.least

@@ -6,5 +6,5 @@ use Rattle.name_faults.proofs.passed.note_written.Given as goal
 
 abbrev pub invariant-loop-index : goal.invariant-loop-index
 invariant-loop-index l =
-    l.into.items ++ written_names (map (λ d. d.name) (drop l.index l.unit.dummies)) (map plain_decl l.unit.decls) (placed_subs (drop l.index l.args))
-    ≡ l.fn.into.items ++ written_names (map (λ d. d.name) l.unit.dummies) (map plain_decl l.unit.decls) (placed_subs l.args)
+    l.into.items ++ written_names (map (λ d. d.name) (drop l.index l.dummies)) (map plain_decl l.callee.decls) (placed_subs (drop l.index l.args))
+    ≡ l.fn.into.items ++ written_names (map (λ d. d.name) l.dummies) (map plain_decl l.callee.decls) (placed_subs l.args)
