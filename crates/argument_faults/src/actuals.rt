@@ -110,7 +110,7 @@ pub fn actuals_of<'a>(
     callee: Option<Callee<'a>>,
     args: &'a [Sub],
 ) -> Result<Vec<Actual<'a>>, NoMemory>
-    ensures { IfOk result (λ list. placed_actuals list.items ≡ walks.actuals_of (option_map plain_unit callee) (placed_subs args.now)) }
+    ensures { IfOk result (λ list. placed_actuals list.items ≡ walks.actuals_of (option_map plain_unit callee.entry) (placed_subs args.now)) }
 {
     match callee {
         None => Ok(Vec::new(alloc)),

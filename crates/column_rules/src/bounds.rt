@@ -9,9 +9,9 @@ ghost use Rattle.fort_names.specs.Sights.{means};
 ghost use Rattle.column_rules.specs.OnTrees as trees;
 ghost use Rattle.column_rules.specs.Rules as rules;
 
-use crate::dummies::{declares_scalar_in, is_column_dummy, is_shared};
+use crate::dummies::is_shared;
 use crate::marks::define_of;
-use fort_names::{Meaning, Sight};
+use fort_names::{Meaning, Sight, declares_scalar_in, is_column_dummy};
 use fort_tree::{Decl, Directive, Expr, File, Kind, Name, Named, NoMemory, Unary, Unit};
 use std::alloc::Global;
 use unit_steps::{bounds, note_names, note_parts};

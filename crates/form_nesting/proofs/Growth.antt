@@ -1,5 +1,5 @@
 -- A statement adds one module and one unit at most, a directive none.
-use Rattle.std.proofs.Common.{◌≡◌, ℕ, suc, ◌+◌, ◌≤◌, length, List, [], ◌∷◌, Option, None, Some, refl, sym, subst, arith}
+use Rattle.std.proofs.Common.{◌≡◌, ℕ, ◌+◌, ◌≤◌, length, List, [], ◌∷◌, Option, None, Some, sym, subst, arith}
 use Rattle.std.proofs.lemmas.List.{length-append}
 use Rattle.fort_tree.specs.declared.expr.Expr.{Expr}
 use Rattle.fort_tree.specs.declared.place.Place.{Place}
@@ -104,4 +104,4 @@ grows f n after e = subst (λ o. Grows (statements_among (f ∷ [])) n.file (fil
 
 pub one_among : (f : Form) (fs : List Form) → statements_among (f ∷ fs) ≡ statements_among (f ∷ []) + statements_among fs
 one_among (Says at level) fs = omega arith
-one_among (Directs d) fs = refl
+one_among (Directs d) fs = omega arith

@@ -55,7 +55,8 @@ fn is_scalar_in(decls: &[Decl], name: &Name) -> bool
     false
 }
 
-fn declares_scalar_in(decl: &Decl) -> bool
+/// Whether it declares an INTENT(IN) scalar.
+pub fn declares_scalar_in(decl: &Decl) -> bool
     ensures { result ≡ units.is_scalar_in (Some (plain_decl decl.now)) }
 {
     is_in(&decl.intent) && !has_dimensions(decl.shape.items())

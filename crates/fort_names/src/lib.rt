@@ -31,7 +31,7 @@ mod uses;
 
 pub use callee::Callee;
 pub use clashes::{note_clashes, note_dummies, note_headers};
-pub use columns::is_named;
+pub use columns::{declares_scalar_in, is_column_dummy, is_named};
 pub use cycles::note_cycles;
 pub use declarations::{note_declarations, note_declared_twice, note_module_faults};
 pub use doubles::note_seconds;

@@ -178,7 +178,7 @@ no_statements [] = refl
 no_statements (d ∷ ds) = no_statements ds
 
 among_both : (a b : List Form) → statements_among (a ++ b) ≡ statements_among a + statements_among b
-among_both [] b = refl
+among_both [] b = omega arith
 among_both (Says at level ∷ a) b = omega (arith, among_both a b)
 among_both (Directs d ∷ a) b = among_both a b
 

@@ -87,13 +87,27 @@ fn note_expr(least: &mut Least, sight: &Sight, fit: Fit, expr: &Expr, dummy: Opt
 }
 
 #[tactic(auto, using(fort_names::proofs::FirstOf::noted_places))]
-fn note_next(least: &mut Least, sight: &Sight, fit: Fit, expr: &Expr, dummy: &Name, callee: &Callee<'_>)
+fn note_next(
+    least: &mut Least,
+    sight: &Sight,
+    fit: Fit,
+    expr: &Expr,
+    dummy: &Name,
+    callee: &Callee<'_>,
+)
     ensures { (rest : List Actual) → noted (found (code_of_fit fit) (flat_map (unfit (means sight.now) fit) rest)) least.new ≡ noted (found (code_of_fit fit) (flat_map (unfit (means sight.now) fit) (actual (Some (placed_expr expr.now)) (first_place (placed_expr expr.now)) (decl_named (plain_unit callee.now).decls dummy.now) ∷ rest))) least.old }
 {
     note_expr(least, sight, fit, expr, callee.declaration(dummy));
 }
 
-fn note_actual(least: &mut Least, sight: &Sight, fit: Fit, dummy: &Name, callee: &Callee<'_>, arg: &Sub)
+fn note_actual(
+    least: &mut Least,
+    sight: &Sight,
+    fit: Fit,
+    dummy: &Name,
+    callee: &Callee<'_>,
+    arg: &Sub,
+)
     ensures { (xs : List Text) (rest : Subscripts) → noted (found (code_of_fit fit) (flat_map (unfit (means sight.now) fit) (matched xs (plain_unit callee.now).decls rest))) least.new ≡ noted (found (code_of_fit fit) (flat_map (unfit (means sight.now) fit) (matched (dummy.now ∷ xs) (plain_unit callee.now).decls (placed_sub arg.now rest)))) least.old }
 {
     match arg {

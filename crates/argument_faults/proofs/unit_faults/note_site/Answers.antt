@@ -22,7 +22,7 @@ returns c =
     let p = placed (file_of c.args.sight.now) in
     let given = placed_actuals c.as_slice-actuals.result.now in
     let are : given ≡ walks.actuals entity (placed_site c.args.site.now) =
-    ap placed_actuals c.as_slice-actuals.ensures.value ∙ c.in_ok-list.ensures ∙ ap (λ o. walks.actuals_of o (placed_subs c.args.site.now.args.now)) c.unit-callee.ensures in
+    ap placed_actuals c.as_slice-actuals.ensures.value ∙ c.in_ok-list.ensures ∙ ap (λ o. walks.actuals_of o (placed_subs c.args.site.now.args.now)) c.callee.ensures in
     c.note_behind_callee.ensures
     ∙ ap (noted (found E38 (behind_in p entity c.args.unit.now given callee))) c.in_ok-note_shared_actuals.ensures
     ∙ sym (noted_places E38 (shared_actuals entity given) (behind_in p entity c.args.unit.now given callee) least)
