@@ -176,36 +176,56 @@ const KINDS: &str = "subroutine e\nlogical :: x\nx = 1\nend subroutine\n";
 
 const OTHER_KINDS: &str = "subroutine f\nlogical :: x\nx = 1\nend subroutine\n";
 
-// Two sources, and the code, the file and the line of their fault.
+// One fault of names in each line.
+const TWO_NAMES: &str = "subroutine g\ninteger :: x\nx = y\ny = 1\nend subroutine\n";
+
+// A kind, an alias and a write at one place.
+const ONE_PLACE: &str =
+    "subroutine s(y)\ninteger(8), intent(in) :: y\ncall t(y, y)\nend\nsubroutine t(y, z)\ninteger(8), intent(in) :: y\ninteger, intent(out) :: z\nz = 1\nend\n";
+
+// An alias and a write at one place.
+const ALIAS: &str =
+    "subroutine s(y)\ninteger, intent(in) :: y\ncall t(y, y)\nend\nsubroutine t(y, z)\ninteger, intent(in) :: y\ninteger, intent(out) :: z\nz = 1\nend\n";
+
+// Two sources, and the code, the file, the line and the column of their first fault.
 #[test]
 fn two_sources(rt: HostRuntime) {
     let cases = [
-        (SOURCE, SOURCE, Code::E31, 1, 2),
+        (SOURCE, SOURCE, Code::E31, 1, 2, 12),
         (
             "subroutine s(a)\ninteger, intent(out) :: a\n!$claw define dimension c(1:n) parallelize data(a)\n",
             "\nend subroutine\n",
             Code::E11,
             0,
             2,
+            1,
         ),
-        ("subroutine s(a)\n", "", Code::E11, 0, 1),
-        ("module m\n", "a = #\n", Code::E03, 1, 1),
-        ("a = #\n", "#\n", Code::E03, 0, 1),
-        // a fault of names in the second file comes before one of calls or of kinds in the first, and so on
-        (KINDS, NAMES, Code::E30, 1, 2),
-        (KINDS, CALLS, Code::E36, 1, 2),
-        (CALLS, NAMES, Code::E30, 1, 2),
+        ("subroutine s(a)\n", "", Code::E11, 0, 1, 1),
+        // a fault of the text in the second file comes before one of the syntax in the first, one of the syntax before one of names, and so on
+        ("module m\n", "a = #\n", Code::E03, 1, 1, 5),
+        (NAMES, "x = 1\n", Code::E11, 1, 1, 1),
+        (KINDS, NAMES, Code::E30, 1, 2, 1),
+        (KINDS, CALLS, Code::E36, 1, 2, 6),
+        (CALLS, NAMES, Code::E30, 1, 2, 1),
         // of one phase the first file's
-        (NAMES, OTHER_NAMES, Code::E30, 0, 2),
-        (CALLS, OTHER_CALLS, Code::E36, 0, 2),
-        (KINDS, OTHER_KINDS, Code::E32, 0, 3),
+        ("a = #\n", "#\n", Code::E03, 0, 1, 5),
+        (NAMES, OTHER_NAMES, Code::E30, 0, 2, 1),
+        (CALLS, OTHER_CALLS, Code::E36, 0, 2, 6),
+        (KINDS, OTHER_KINDS, Code::E32, 0, 3, 5),
+        // of one file the first place's, and of one place the smallest code
+        (TWO_NAMES, "", Code::E30, 0, 3, 5),
+        ("", ONE_PLACE, Code::E32, 1, 3, 11),
+        ("", ALIAS, Code::E38, 1, 3, 11),
     ];
 
-    for (first, second, code, file, line) in cases {
+    for (first, second, code, file, line, column) in cases {
         let fault = fault_of_two(rt.alloc(), first, second)
             .expect(&rt, "room")
             .expect(&rt, "fault");
-        assert!(rt; fault.code == code && fault.place.file == file && fault.place.line == line);
+        let place = fault.place;
+        assert!(rt;
+            fault.code == code && place.file == file && place.line == line && place.column == column
+        );
     }
 }
 
