@@ -1,10 +1,10 @@
 //! Faults of ranks in declarations.
-ghost use Rattle.std.specs.Prelude.{◌≡◌, ◌∷◌, ◌&&◌, ◌||◌, [], not, is_none, is_some, map, flat_map, nat_lt, length};
+ghost use Rattle.std.specs.Prelude.{◌≡◌, ◌∷◌, ◌||◌, [], is_none, is_some, map, flat_map, nat_lt, length};
 ghost use Rattle.fort_tree.specs.declared.fault.Code.TheVariants.{E33};
 ghost use Rattle.std.specs.Str.{bytes_eq};
 ghost use Rattle.sound_programs.specs.Faults.{found};
 ghost use Rattle.sound_programs.specs.Placing.{placed_bound, placed_decl, placed_unit};
-ghost use Rattle.sound_programs.specs.RankFaults.{greatest_rank as greatest_meant, has_assumed as assumed_test, has_explicit as explicit_test, has_dimensions as dimensions_test, places_of_decls, rank_above_limit, result_not_scalar, rank_faults_of_decls};
+ghost use Rattle.sound_programs.specs.RankFaults.{greatest_rank as greatest_meant, has_assumed as assumed_test, has_explicit as explicit_test, is_assumed_of_no_dummy as of_no_dummy, is_assumed_beside_explicit as beside_explicit, has_dimensions as dimensions_test, places_of_decls, rank_above_limit, result_not_scalar, rank_faults_of_decls};
 ghost use Rattle.sound_programs.specs.Scopes.{is_dummy as dummy_test};
 ghost use Rattle.fort_names.specs.Leasts.{noted};
 ghost use Rattle.kind_faults.specs.Holders.{scope_of};
@@ -84,15 +84,28 @@ fn is_dummy(holder: &Holder, name: &Name) -> bool
     is_named(holder.dummies(), name)
 }
 
-/// Whether it has an assumed shape, and its name is no dummy or a dimension has an upper bound.
-fn is_assumed_wrongly(holder: &Holder, decl: &Decl) -> bool
-    ensures { result ≡ (assumed_test (placed_decl decl.now) && (not (dummy_test (scope_of holder.now) decl.now.name) || explicit_test (placed_decl decl.now))) }
+/// Whether it has an assumed shape, and its name is no dummy.
+fn is_assumed_of_no_dummy(holder: &Holder, decl: &Decl) -> bool
+    ensures { result ≡ of_no_dummy (scope_of holder.now) (placed_decl decl.now) }
 {
-    has_assumed(decl) && (!is_dummy(holder, &decl.name) || has_explicit(decl))
+    has_assumed(decl) && !is_dummy(holder, &decl.name)
+}
+
+/// Whether it has an assumed shape beside a dimension that has an upper bound.
+fn is_assumed_beside_explicit(decl: &Decl) -> bool
+    ensures { result ≡ beside_explicit (placed_decl decl.now) }
+{
+    has_assumed(decl) && has_explicit(decl)
+}
+
+fn is_assumed_wrongly(holder: &Holder, decl: &Decl) -> bool
+    ensures { result ≡ (of_no_dummy (scope_of holder.now) (placed_decl decl.now) || beside_explicit (placed_decl decl.now)) }
+{
+    is_assumed_of_no_dummy(holder, decl) || is_assumed_beside_explicit(decl)
 }
 
 fn note_assumed(least: &mut Least, holder: &Holder, decls: &[Decl])
-    ensures { least.new ≡ noted (found E33 (places_of_decls (λ d. assumed_test d && (not (dummy_test (scope_of holder.now) d.name) || explicit_test d)) (map placed_decl decls.now))) least.old }
+    ensures { least.new ≡ noted (found E33 (places_of_decls (λ d. of_no_dummy (scope_of holder.now) d || beside_explicit d) (map placed_decl decls.now))) least.old }
 {
     for decl in decls {
         least.note_if(is_assumed_wrongly(holder, decl), Code::E33, decl.at);

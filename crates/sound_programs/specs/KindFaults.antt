@@ -218,12 +218,15 @@ module _ (entity : Text → Entity) where
   case_value (Signed sign e at) = written_number (Signed sign e at)
   case_value other = None
 
-  -- A value of a case that is no INTEGER PARAMETER and no number, or that isn't in the kind of the SELECT's expression. The
-  -- kinds of the two may differ.
+  -- A value of a case that isn't in the kind of the SELECT's expression. The kinds of the two may differ.
+  abbrev pub is_outside_of : Option Kind → ℤ → Bool
+  is_outside_of None n = false
+  is_outside_of (Some k) n = is_whole k && not (in_kind k n)
+
+  -- So is one that is no INTEGER PARAMETER and no number.
   abbrev pub is_case_fault : Option Kind → Option ℤ → Bool
   is_case_fault k None = true
-  is_case_fault None (Some n) = false
-  is_case_fault (Some k) (Some n) = is_whole k && not (in_kind k n)
+  is_case_fault k (Some n) = is_outside_of k n
 
   abbrev pub case_fault : Option Kind → Expr → List Place
   case_fault k e = where_place (is_case_fault k (case_value e)) (first e)

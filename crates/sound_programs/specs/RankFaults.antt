@@ -38,9 +38,16 @@ has_assumed d = list_any (λ b. is_none b.upper) d.shape
 abbrev pub has_explicit : Decl → Bool
 has_explicit d = list_any (λ b. is_some b.upper) d.shape
 
--- an assumed shape on a name that is no dummy, or beside a dimension that has an upper bound
+-- an assumed shape on a name that is no dummy
+abbrev pub is_assumed_of_no_dummy : Scope → Decl → Bool
+is_assumed_of_no_dummy s d = has_assumed d && not (is_dummy s d.name)
+
+-- an assumed shape beside a dimension that has an upper bound
+abbrev pub is_assumed_beside_explicit : Decl → Bool
+is_assumed_beside_explicit d = has_assumed d && has_explicit d
+
 abbrev pub assumed_wrongly : Scope → List Place
-assumed_wrongly s = places_of_decls (λ d. has_assumed d && (not (is_dummy s d.name) || has_explicit d)) (decls_of s)
+assumed_wrongly s = places_of_decls (λ d. is_assumed_of_no_dummy s d || is_assumed_beside_explicit d) (decls_of s)
 
 abbrev pub has_dimensions : List Dimension → Bool
 has_dimensions [] = false
@@ -160,10 +167,17 @@ module _ (entity : Text → Entity) where
   is_array_reference (Reference x subs at) = takes_sections x
   is_array_reference other = false
 
-  -- an actual whose rank isn't its dummy's, or an array actual that is no array name or section
+  -- an actual whose rank isn't its dummy's
+  abbrev pub has_another_rank : Expr → plain.Decl → Bool
+  has_another_rank e d = not (nat_eq (rank entity e) (length d.shape))
+
+  -- an array actual that is no array name or section
+  abbrev pub is_array_made : Expr → Bool
+  is_array_made e = nat_lt 0 (rank entity e) && not (is_array_reference e)
+
   abbrev pub is_rank_fault : Expr → Option plain.Decl → Bool
   is_rank_fault e None = false
-  is_rank_fault e (Some d) = not (nat_eq (rank entity e) (length d.shape)) || (nat_lt 0 (rank entity e) && not (is_array_reference e))
+  is_rank_fault e (Some d) = has_another_rank e d || is_array_made e
 
   abbrev pub rank_fault_of_actual : Actual → List Place
   rank_fault_of_actual a = flat_map (λ e. where_place (is_rank_fault e a.dummy) (first e)) (option_to_list a.expr)
