@@ -1,64 +1,15 @@
 -- To note the least of some faults is to note them all.
-use Rattle.std.proofs.Common.{◌≡◌, ℕ, Bool, true, false, ◌&&◌, ◌||◌, List, [], ◌∷◌, Option, None, Some, refl, sym, ap, ◌∙◌, arith, if◌then◌else◌}
-use Rattle.std.specs.Prelude.{nat_lt, nat_eq}
+use Rattle.std.proofs.Common.{◌≡◌, Bool, true, false, List, [], ◌∷◌, Option, None, Some, refl, sym, ap, ◌∙◌, arith, if◌then◌else◌}
 use Rattle.std.specs.Option.{option_map, option_to_list}
 use Rattle.std.proofs.lemmas.Bool.{false≢true}
-use Rattle.std.proofs.lemmas.Bool.Decides.{nat_tests}
-use Rattle.fort_tree.specs.Code.{code_number}
 use Rattle.fort_tree.specs.declared.fault.Code.TheVariants.{E3A}
 use Rattle.fort_tree.specs.declared.place.Place.{Place}
 use Rattle.sound_programs.specs.Faults.{Found, found, is_before}
 use Rattle.fort_names.specs.declared.least.At.{At}
 use Rattle.fort_names.specs.FoundAt.{found_of}
 use Rattle.fort_names.specs.Leasts.{note, noted}
+use Rattle.fort_names.proofs.FirstOf.{before_chain, before_between}
 use Rattle.argument_faults.specs.ModuleWrites.{IsFirstWrite}
-
--- the order of faults, number by number
-
-abbrev Later : ℕ → ℕ → Bool → Bool
-Later a b rest = nat_lt a b || (nat_eq a b && rest)
-
-abbrev In_order : Found → Found → Bool
-In_order a b = Later a.at.file b.at.file (Later a.at.line b.at.line (Later a.at.column b.at.column (nat_lt (code_number a.code) (code_number b.code))))
-
-regroup : (a b c d e g r : Bool) → ((a || (b && (c || (d && e)))) || ((b && (d && g)) && r)) ≡ (a || (b && (c || (d && (e || (g && r))))))
-regroup true b c d e g r = refl
-regroup false false c d e g r = refl
-regroup false true true d e g r = refl
-regroup false true false false e g r = refl
-regroup false true false true e g r = refl
-
-order_is : (a b : Found) → is_before a b ≡ In_order a b
-order_is a b = regroup (nat_lt a.at.file b.at.file) (nat_eq a.at.file b.at.file) (nat_lt a.at.line b.at.line) (nat_eq a.at.line b.at.line) (nat_lt a.at.column b.at.column) (nat_eq a.at.column b.at.column) (nat_lt (code_number a.code) (code_number b.code))
-
-later_chain : (a b c : ℕ) (x y z : Bool) → (x ≡ true → y ≡ true → z ≡ true) → Later a b x ≡ true → Later b c y ≡ true → Later a c z ≡ true
-later_chain a b c x y z next = grind (arith, nat_tests)
-
-last_chain : (x y z : ℕ) → nat_lt x y ≡ true → nat_lt y z ≡ true → nat_lt x z ≡ true
-last_chain x y z = grind (arith, nat_tests)
-
-before_chain : (a b c : Found) → is_before a b ≡ true → is_before b c ≡ true → is_before a c ≡ true
-before_chain a b c e h =
-    order_is a c
-    ∙ later_chain a.at.file b.at.file c.at.file _ _ _
-    (later_chain a.at.line b.at.line c.at.line _ _ _
-    (later_chain a.at.column b.at.column c.at.column _ _ _ (last_chain (code_number a.code) (code_number b.code) (code_number c.code))))
-    (sym (order_is a b) ∙ e) (sym (order_is b c) ∙ h)
-
--- where a comes before c, it comes before b or b comes before c
-later_between : (a b c : ℕ) (x y z : Bool) → (x ≡ true → y ≡ false → z ≡ true) → Later a c x ≡ true → Later b c y ≡ false → Later a b z ≡ true
-later_between a b c x y z next = grind (arith, nat_tests)
-
-last_between : (x y z : ℕ) → nat_lt x z ≡ true → nat_lt y z ≡ false → nat_lt x y ≡ true
-last_between x y z = grind (arith, nat_tests)
-
-before_between : (a b c : Found) → is_before a c ≡ true → is_before b c ≡ false → is_before a b ≡ true
-before_between a b c e h =
-    order_is a b
-    ∙ later_between a.at.file b.at.file c.at.file _ _ _
-    (later_between a.at.line b.at.line c.at.line _ _ _
-    (later_between a.at.column b.at.column c.at.column _ _ _ (last_between (code_number a.code) (code_number b.code) (code_number c.code))))
-    (sym (order_is a c) ∙ e) (sym (order_is b c) ∙ h)
 
 -- the least of three, from either side
 three : (before : Found → Found → Bool) → ((a b c : Found) → before a b ≡ true → before b c ≡ true → before a c ≡ true) → ((a b c : Found) → before a c ≡ true → before b c ≡ false → before a b ≡ true)

@@ -1,5 +1,5 @@
 -- Where no name is declared twice the units have different names.
-use Rattle.std.proofs.Common.{◌≡◌, ℕ, zero, suc, ◌<◌, Bool, true, false, List, [], ◌∷◌, ◌++◌, map, flat_map, length, refl, sym, ap, ◌∙◌, subst, arith}
+use Rattle.std.proofs.Common.{◌≡◌, ℕ, zero, suc, ◌<◌, true, false, List, [], ◌∷◌, ◌++◌, map, flat_map, length, refl, sym, ap, ◌∙◌, subst, arith}
 use Rattle.std.specs.Str.{bytes_eq}
 use Rattle.std.proofs.lemmas.Bool.{false≢true}
 use Rattle.std.proofs.lemmas.Slice.Eq.{bytes_eq-Decides}
@@ -17,15 +17,8 @@ use Rattle.sound_programs.specs.Placed.{bare_program}
 use Rattle.sound_programs.specs.Placing.{placed, placed_unit}
 use Rattle.sound_programs.specs.Places.{later_of, where_place}
 use Rattle.sound_programs.specs.Scopes.{scopes, named_unit, named_module}
-use Rattle.sound_programs.proofs.SoundLaws.{left_empty, right_empty, map_empty}
+use Rattle.sound_programs.proofs.Empties.{left_empty, right_empty, map_empty, not_placed}
 use Rattle.call_graph.specs.Referring.{unit_names, name_at, NamesDiffer}
-
-no_head : {A : Type 0} (x : A) (xs : List A) → x ∷ xs ≡ [] → ⊥
-no_head x xs e = cc
-
-not_placed : (b : Bool) (place : Place) → where_place b place ≡ [] → b ≡ false
-not_placed true place e = absurd (no_head place [] e)
-not_placed false place e = refl
 
 apart : (n : Named) (rest : List Named) → flat_map (λ b. where_place (bytes_eq n.name b.name) (later_of n.at b.at)) rest ≡ [] → (j : ℕ) → j < length rest → bytes_eq n.name (name_at (map (λ m. m.name) rest) j) ≡ false
 apart n [] e j h = absurd (omega (arith, h))

@@ -18,9 +18,8 @@ use Rattle.sound_programs.specs.CallFaults.{Referral, link_of, referrals, referr
 use Rattle.sound_programs.specs.Faults.{found, faults_of_calls}
 use Rattle.sound_programs.specs.Links.{Links, is_on_cycle}
 use Rattle.sound_programs.specs.Placed.{bare_program}
-use Rattle.sound_programs.specs.Places.{the_first, earlier_of, first_of}
 use Rattle.sound_programs.specs.Placing.{placed, placed_unit}
-use Rattle.sound_programs.proofs.SoundLaws.{left_empty, map_empty}
+use Rattle.sound_programs.proofs.Empties.{no_head, first_empty, left_empty, map_empty}
 use Rattle.call_graph.specs.declared.calls.Calls.{Calls}
 use Rattle.call_graph.specs.declared.reference.Reference.{Reference}
 use Rattle.call_graph.specs.Calling.{AreCalls, links_of}
@@ -33,20 +32,10 @@ use Rattle.call_graph.proofs.Lists.{map_append}
 
 -- ---- each unit stands in the order
 
-first_empty : (places : List Place) → the_first places ≡ [] → places ≡ []
-first_empty [] e = refl
-first_empty (a ∷ rest) e = absurd (no_head (earlier_of a (first_of rest)) [] e)
-  where
-    no_head : (x : Place) (xs : List Place) → x ∷ xs ≡ [] → ⊥
-    no_head x xs e = cc
-
 none_passes : (test : Referral → Bool) (rs : List Referral) → filter test rs ≡ [] → list_any test rs ≡ false
 none_passes test [] e = refl
 none_passes test (r ∷ rs) e = go (test r) (none_passes test rs) e
   where
-    no_head : (x : Referral) (xs : List Referral) → x ∷ xs ≡ [] → ⊥
-    no_head x xs e = cc
-
     go : (b : Bool) → (filter test rs ≡ [] → list_any test rs ≡ false) → cond b (r ∷ filter test rs) (filter test rs) ≡ [] → (b || list_any test rs) ≡ false
     go true rest e = absurd (no_head r (filter test rs) e)
     go false rest e = rest e

@@ -1,7 +1,7 @@
 -- In a sound program each bound and each value of a declaration has a kind, and so has each of its parts: others are faults of
 -- kinds (E32).
 use Rattle.std.proofs.Common.{◌≡◌, List, [], Bool, true, false, ◌&&◌, not, cond, Option, None, Some, refl, ap, ◌∙◌}
-use Rattle.std.proofs.lemmas.Bool.{false≢true, and_parts}
+use Rattle.std.proofs.lemmas.Bool.{false≢true, and_parts, not-false}
 use Rattle.std.specs.Prelude.{pos, flat_map, is_some, int_le}
 use Rattle.std.specs.Option.{option_to_list}
 use Rattle.fort_arith.specs.declared.kind.Kind.{Kind}
@@ -23,10 +23,10 @@ use Rattle.sound_programs.specs.Placing.{placed}
 use Rattle.sound_programs.specs.Scopes.{Scope, Of_unit, Of_module, scopes, decls_of, entity_in}
 use Rattle.sound_programs.specs.Sound.{Sound}
 use Rattle.sound_programs.specs.Walks.{parts, bounds_in}
-use Rattle.sound_programs.proofs.SoundLaws.{empty_if_nowhere, left_empty, right_empty}
-use Rattle.sound_programs.proofs.WithinLists.{each_append, each_of_each}
+use Rattle.sound_programs.proofs.SoundLaws.{empty_if_nowhere}
+use Rattle.sound_programs.proofs.WithinLists.{each_append, each_of_each, each_by, each_right, each_flat, both_of}
+use Rattle.sound_programs.proofs.Empties.{left_empty, right_empty, no_head, each_empty, not_placed}
 use Rattle.checked_programs.specs.Fitting.{HasKind, in_decls}
-use Rattle.checked_programs.proofs.Empties.{no_head, each_by, each_empty, not_placed, not_false, each_in_append, each_of_parts, both_of}
 use Rattle.checked_programs.proofs.PartsFit.{integer_is, integer_known, greater_known}
 
 at_most_whole : (k : Kind) → is_at_most_4 k ≡ true → is_whole k ≡ true
@@ -66,7 +66,7 @@ module _ (s : Scope) (entity : Text → Entity) where
 
   name_bound : (e : Expr) → name_fault s entity e ≡ [] → IsBound e
   name_bound (Name x at) none =
-      let h : is_integer (kind_of_entity (entity x)) ≡ true = may_integer x (entity x) (not_false _ (not_placed _ _ none)) in (h, (integer_known _ h, tt))
+      let h : is_integer (kind_of_entity (entity x)) ≡ true = may_integer x (entity x) (not-false _ (not_placed _ _ none)) in (h, (integer_known _ h, tt))
   name_bound (Numeral n suffix at) none = absurd (no_head at [] none)
   name_bound (Boolean b at) none = absurd (no_head at [] none)
   name_bound (Reference x subs at) none = absurd (no_head at [] none)
@@ -108,7 +108,7 @@ module _ (s : Scope) (entity : Text → Entity) where
 
   -- a literal whose number lies in its kind is INTEGER
   literal_whole : (n : _) (suffix : Option Kind) (at : _) → literal_fault (Numeral n suffix at) ≡ [] → is_whole (or_default suffix) ≡ true
-  literal_whole n suffix at none = in_whole (or_default suffix) (pos n) (not_false _ (not_placed _ _ none))
+  literal_whole n suffix at none = in_whole (or_default suffix) (pos n) (not-false _ (not_placed _ _ none))
 
   number_known : (k : Kind) (e : Expr) → Each (parts e) (λ p. literal_fault p ≡ []) → is_number_in k (written_number e) ≡ true → AllKnown e
   number_known k (Numeral n suffix at) none h = (refl, tt)
@@ -146,15 +146,15 @@ module _ (s : Scope) (entity : Text → Entity) where
   option_known : (k : Kind) (o : Option Expr) → Each (option_to_list o) (λ e. Each (parts e) (λ p. literal_fault p ≡ []))
       → flat_map (λ e. where_place (not (is_value_of k e)) (first e)) (option_to_list o) ≡ [] → Each (option_to_list o) AllKnown
   option_known k None literals none = tt
-  option_known k (Some e) literals none = (value_known k e literals.0 (not_false _ (not_placed _ _ (left_empty _ _ none))), tt)
+  option_known k (Some e) literals none = (value_known k e literals.0 (not-false _ (not_placed _ _ (left_empty _ _ none))), tt)
 
   decls_known : (decls : List Decl) → kind_faults_of_decls s entity decls ≡ [] → Each (flat_map parts (in_decls decls)) (HasKind entity)
   decls_known decls none =
       let values : List Expr = flat_map (λ (d : Decl). option_to_list d.value) decls in
       let literals : Each (in_decls decls) (λ e. Each (parts e) (λ p. literal_fault p ≡ [])) =
-      each_of_parts parts (λ p. literal_fault p ≡ []) (in_decls decls) (each_empty literal_fault (flat_map parts (in_decls decls)) (left_empty _ _ none)) in
+      each_flat parts (λ p. literal_fault p ≡ []) (in_decls decls) (each_empty literal_fault (flat_map parts (in_decls decls)) (left_empty _ _ none)) in
       let in_values : Each decls (λ d. Each (option_to_list d.value) (λ e. Each (parts e) (λ p. literal_fault p ≡ []))) =
-      each_of_parts (λ (d : Decl). option_to_list d.value) (λ e. Each (parts e) (λ p. literal_fault p ≡ [])) decls (each_in_append _ (bounds_in decls) values literals) in
+      each_flat (λ (d : Decl). option_to_list d.value) (λ e. Each (parts e) (λ p. literal_fault p ≡ [])) decls (each_right _ (bounds_in decls) values literals) in
       let valued : Each decls (λ d. Each (option_to_list d.value) AllKnown) =
       each_by decls (λ (d : Decl) h. option_known d.kind d.value h.0 h.1)
       (both_of _ _ decls in_values (each_empty value_fault decls (left_empty _ _ (right_empty _ _ none)))) in

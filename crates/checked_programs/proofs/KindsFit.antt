@@ -1,6 +1,6 @@
 -- In a sound program each expression has a kind, and each step has the kinds that it needs.
 use Rattle.std.proofs.Common.{◌≡◌, ℤ, List, [], ◌∷◌, Bool, true, false, cond, Option, None, Some, refl, sym, ap, subst, ◌∙◌}
-use Rattle.std.proofs.lemmas.Bool.{false≢true}
+use Rattle.std.proofs.lemmas.Bool.{false≢true, not-false}
 use denote.Enum.Bare.{same_true}
 use Rattle.std.specs.Prelude.{flat_map, is_some}
 use Rattle.std.specs.List.{filter}
@@ -21,11 +21,10 @@ use Rattle.sound_programs.specs.Placing.{placed}
 use Rattle.sound_programs.specs.Scopes.{unit_of}
 use Rattle.sound_programs.specs.Sound.{Sound}
 use Rattle.sound_programs.specs.Walks.{Stands, Step, Assigns, Calls, Tests, Chooses, Repeats, Site, reference, call_site, is_function_site, sites, Actual, matched, actuals_of, actuals, steps_of, left_of, parts_read, parts_of, read_by, beside, in_subscripts, single_subscripts, in_head}
-use Rattle.sound_programs.proofs.SoundLaws.{left_empty, right_empty}
-use Rattle.sound_programs.proofs.WithinLists.{each_append, each_of_each, each_kept}
+use Rattle.sound_programs.proofs.WithinLists.{each_append, each_of_each, each_kept, each_by, each_right, both_of}
+use Rattle.sound_programs.proofs.Empties.{left_empty, right_empty, no_head, each_from, each_empty, not_placed, then_true}
 use Rattle.checked_programs.specs.Fitting.{EachTwo, AreOfOneSort, CaseFits, HasValue, ShareNoNumber, HasKind, WholesFit, ActualFits, HasFittingKinds, KindsFit, KindsAreKnown}
 use Rattle.checked_programs.proofs.DeclsKnown.{declarations_known}
-use Rattle.checked_programs.proofs.Empties.{no_head, each_by, each_from, each_empty, not_placed, not_false, then_true, each_in_append, both_of}
 use Rattle.checked_programs.proofs.KindsKnown.{IsSettled, StepIsSettled, all_known}
 use Rattle.checked_programs.proofs.PartsFit.{InsideHasKinds, each_single, each_bound, is_whole_part, is_logical_part, all_whole, part_fits}
 
@@ -77,7 +76,7 @@ module _ (entity : Text → Entity) where
 
   actuals_known : (step : Step) → StepIsSettled entity step → Each (flat_map (actuals entity) (sites entity step)) ActualHasKind
   actuals_known step settled =
-      let inside : Each (parts_read step) (IsSettled entity) = each_in_append (IsSettled entity) (left_of step) (parts_read step) settled.inside in
+      let inside : Each (parts_read step) (IsSettled entity) = each_right (IsSettled entity) (left_of step) (parts_read step) settled.inside in
       let functions : Each (flat_map reference (parts_read step)) SiteHasKinds =
       each_of_each (IsSettled entity) SiteHasKinds reference (parts_read step) (λ e h. at_reference e h.1) inside in
       each_of_each SiteHasKinds ActualHasKind (actuals entity) (sites entity step) (λ s h. of_unit (unit_of (entity s.name.name)) s.args h)
@@ -86,7 +85,7 @@ module _ (entity : Text → Entity) where
 
   kind_is : (o : Option Kind) (d : plain.Decl) → is_some o ≡ true → actual_differs entity o (Some d) ≡ false → o ≡ Some d.kind
   kind_is None d known h = absurd (false≢true known)
-  kind_is (Some k) d known h = ap Some (same_true kind_type tt k d.kind (not_false _ h))
+  kind_is (Some k) d known h = ap Some (same_true kind_type tt k d.kind (not-false _ h))
 
   agrees : (o : Option Expr) (p : Option plain.Decl) → actual_differs entity (kind_of_actual entity o) p ≡ false → ((e : Expr) → o ≡ Some e → HasKind entity e)
       → (e : Expr) (d : plain.Decl) → o ≡ Some e → p ≡ Some d → kind entity e ≡ Some d.kind
@@ -144,7 +143,7 @@ module _ (entity : Text → Entity) where
 
   wholes_fit : (step : Step) → StepIsSettled entity step → needs_of_step entity step ≡ [] → WholesFit entity step
   wholes_fit (Assigns left right) settled none =
-      sorts (kind entity left) right settled.lefts.0 (each_in_append (HasKind entity) (beside left) (right ∷ []) settled.reads).0 none
+      sorts (kind entity left) right settled.lefts.0 (each_right (HasKind entity) (beside left) (right ∷ []) settled.reads).0 none
   wholes_fit (Calls name args) settled none = all_whole entity _ (each_bound (HasKind entity) args settled.reads) none
   wholes_fit (Tests e) settled none = is_logical_part entity e settled.reads.0 none
   wholes_fit (Chooses e ranges) settled none =

@@ -3,7 +3,7 @@
 -- to no array, function or intrinsic (E35); LOGICAL where INTEGER is needed, arguments that differ in kind, and a wrong second
 -- argument of INT (E32); a range as argument (E33); an intrinsic without arguments (E37). A left side is a name, since forms nest.
 use Rattle.std.proofs.Common.{◌≡◌, List, [], ◌∷◌, ◌++◌, map, Bool, true, false, ◌||◌, not, cond, Option, None, Some, refl, sym, subst}
-use Rattle.std.proofs.lemmas.Bool.{false≢true}
+use Rattle.std.proofs.lemmas.Bool.{false≢true, not-false}
 use Rattle.std.specs.Prelude.{flat_map, is_some}
 use Rattle.std.specs.Option.{option_map, option_to_list}
 use Rattle.std.specs.Str.{bytes_eq}
@@ -26,13 +26,14 @@ use Rattle.sound_programs.specs.RankFaults.{rank_faults_of_part, rank_faults_in_
 use Rattle.sound_programs.specs.Scopes.{Scope, Of_unit, scopes, entity_in, is_variable_or_constant, is_array, is_function}
 use Rattle.sound_programs.specs.Sound.{Sound}
 use Rattle.sound_programs.specs.Walks.{Stands, Step, Assigns, Calls, Tests, Chooses, Repeats, Site, steps_of, left_of, beside, read_by, parts, parts_in, parts_in_limit, parts_read, parts_of, in_limit, in_subscripts, reference, count_of, name_in, bare_name, name_before_parenthesis}
-use Rattle.sound_programs.proofs.SoundLaws.{empty_if_nowhere, left_empty, right_empty}
-use Rattle.sound_programs.proofs.WithinLists.{each_append, each_image}
+use Rattle.sound_programs.proofs.SoundLaws.{empty_if_nowhere}
+use Rattle.sound_programs.proofs.WithinLists.{each_append, each_image, each_by, each_right, each_left, each_before_map, each_flat, both_of}
 use Rattle.checked_programs.specs.Fitting.{HasKind}
-use Rattle.checked_programs.proofs.Empties.{each_by, each_empty, none_where, not_placed, not_false, each_in_append, each_before_append, each_before_map, each_of_parts, both_of}
-use Rattle.checked_programs.proofs.Lefts.{IsLeft, lefts_of_file}
+use Rattle.checked_programs.proofs.Lefts.{lefts_of_file}
+use Rattle.sound_programs.proofs.LeftSides.{IsLeft}
 use Rattle.checked_programs.proofs.PartsFit.{InsideHasKinds, NamedHasKind, IsFaultless, part_known}
-use Rattle.checked_programs.proofs.Seen.{Sees, sees}
+use Rattle.sound_programs.proofs.SeenUnits.{Sees, sees}
+use Rattle.sound_programs.proofs.Empties.{left_empty, right_empty, each_empty, none_where, not_placed}
 
 -- ---- Expressions in whose parts no fault stands
 
@@ -61,22 +62,22 @@ module _ (entity : Text → Entity) where
     settled (Reference x subs at) h = let s = settled_in subs h.1 in (settle (Reference x subs at) s.1 h.0, s.0)
     settled (Signed sign e at) h = let s = settled e h.1 in (settle (Signed sign e at) (whole e s) h.0, s)
     settled (Binary op a b) h =
-        let s = settled a (each_before_append (IsFaultless entity) (parts a) (parts b) h.1) in
-        let t = settled b (each_in_append (IsFaultless entity) (parts a) (parts b) h.1) in
+        let s = settled a (each_left (IsFaultless entity) (parts a) (parts b) h.1) in
+        let t = settled b (each_right (IsFaultless entity) (parts a) (parts b) h.1) in
         (settle (Binary op a b) (whole a s, whole b t) h.0, each_append IsSettled (parts a) (parts b) s t)
     settled (Paren e at) h = let s = settled e h.1 in (settle (Paren e at) (whole e s) h.0, s)
 
     settled_in : (subs : Subscripts) → Each (parts_in subs) (IsFaultless entity) → Each (parts_in subs) IsSettled × Each (in_subscripts subs) (HasKind entity)
     settled_in No_more h = (tt, tt)
     settled_in (One e rest) h =
-        let s = settled e (each_before_append (IsFaultless entity) (parts e) (parts_in rest) h) in
-        let t = settled_in rest (each_in_append (IsFaultless entity) (parts e) (parts_in rest) h) in
+        let s = settled e (each_left (IsFaultless entity) (parts e) (parts_in rest) h) in
+        let t = settled_in rest (each_right (IsFaultless entity) (parts e) (parts_in rest) h) in
         (each_append IsSettled (parts e) (parts_in rest) s t.0, (whole e s, t.1))
     settled_in (Section lower upper at rest) h =
-        let behind = each_in_append (IsFaultless entity) (parts_in_limit lower) (parts_in_limit upper ++ parts_in rest) h in
-        let s = settled_limit lower (each_before_append (IsFaultless entity) (parts_in_limit lower) (parts_in_limit upper ++ parts_in rest) h) in
-        let t = settled_limit upper (each_before_append (IsFaultless entity) (parts_in_limit upper) (parts_in rest) behind) in
-        let r = settled_in rest (each_in_append (IsFaultless entity) (parts_in_limit upper) (parts_in rest) behind) in (
+        let behind = each_right (IsFaultless entity) (parts_in_limit lower) (parts_in_limit upper ++ parts_in rest) h in
+        let s = settled_limit lower (each_left (IsFaultless entity) (parts_in_limit lower) (parts_in_limit upper ++ parts_in rest) h) in
+        let t = settled_limit upper (each_left (IsFaultless entity) (parts_in_limit upper) (parts_in rest) behind) in
+        let r = settled_in rest (each_right (IsFaultless entity) (parts_in_limit upper) (parts_in rest) behind) in (
           each_append IsSettled (parts_in_limit lower) (parts_in_limit upper ++ parts_in rest) s.0 (each_append IsSettled (parts_in_limit upper) (parts_in rest) t.0 r.0),
           each_append (HasKind entity) (in_limit lower) (in_limit upper ++ in_subscripts rest) s.1 (each_append (HasKind entity) (in_limit upper) (in_subscripts rest) t.1 r.1),
         )
@@ -88,8 +89,8 @@ module _ (entity : Text → Entity) where
   all_settled : (es : List Expr) → Each (flat_map parts es) (IsFaultless entity) → Each (flat_map parts es) IsSettled × Each es (HasKind entity)
   all_settled [] h = (tt, tt)
   all_settled (e ∷ es) h =
-      let s = settled e (each_before_append (IsFaultless entity) (parts e) (flat_map parts es) h) in
-      let t = all_settled es (each_in_append (IsFaultless entity) (parts e) (flat_map parts es) h) in
+      let s = settled e (each_left (IsFaultless entity) (parts e) (flat_map parts es) h) in
+      let t = all_settled es (each_right (IsFaultless entity) (parts e) (flat_map parts es) h) in
       (each_append IsSettled (parts e) (flat_map parts es) s t.0, (whole e s, t.1))
 
   -- a left side is a name
@@ -103,7 +104,7 @@ module _ (entity : Text → Entity) where
   left_settled (Paren e at) left none inside = absurd left
 
   lefts_settled : (step : Step) → Each (left_of step) IsLeft → Each (left_of step) (IsFaultless entity) → Each (read_by step) (HasKind entity) → Each (left_of step) IsSettled
-  lefts_settled (Assigns left right) is none reads = (left_settled left is.0 none.0 (each_before_append (HasKind entity) (beside left) (right ∷ []) reads), tt)
+  lefts_settled (Assigns left right) is none reads = (left_settled left is.0 none.0 (each_left (HasKind entity) (beside left) (right ∷ []) reads), tt)
   lefts_settled (Calls name args) is none reads = tt
   lefts_settled (Tests e) is none reads = tt
   lefts_settled (Chooses e ranges) is none reads = tt
@@ -117,8 +118,8 @@ module _ (entity : Text → Entity) where
 
   step_settled : (step : Step) → Each (left_of step) IsLeft → Each (parts_of step) (IsFaultless entity) → StepIsSettled step
   step_settled step is none =
-      let s = all_settled (read_by step) (each_in_append (IsFaultless entity) (left_of step) (parts_read step) none) in
-      let l = lefts_settled step is (each_before_append (IsFaultless entity) (left_of step) (parts_read step) none) s.1 in
+      let s = all_settled (read_by step) (each_right (IsFaultless entity) (left_of step) (parts_read step) none) in
+      let l = lefts_settled step is (each_left (IsFaultless entity) (left_of step) (parts_read step) none) s.1 in
       record {
         inside = each_append IsSettled (left_of step) (parts_read step) l s.0;
         lefts = each_by (left_of step) (λ (e : Expr) (h : IsSettled e). h.0) l;
@@ -142,12 +143,12 @@ listed_decl (d ∷ decls) x h = go (bytes_eq d.name x) (listed_decl decls x) h
 
 result_has_kind : (u : Unit) → undeclared_dummies u ≡ [] → ResultHasKind (bare_unit u)
 result_has_kind u none =
-    go u.result (each_in_append _ u.dummies (option_to_list u.result) (none_where (λ n. not (is_listed (map (λ d. d.name) u.decls) n.name)) (u.dummies ++ option_to_list u.result) none))
+    go u.result (each_right _ u.dummies (option_to_list u.result) (none_where (λ n. not (is_listed (map (λ d. d.name) u.decls) n.name)) (u.dummies ++ option_to_list u.result) none))
   where
     go : (o : Option Named) → Each (option_to_list o) (λ n. not (is_listed (map (λ d. d.name) u.decls) n.name) ≡ false)
         → is_some (option_map (λ (r : Named). r.name) o) ≡ true → is_some (kind_of_result (option_map (λ (r : Named). r.name) o) (bare_unit u)) ≡ true
     go None h e = e
-    go (Some r) h e = listed_decl u.decls r.name (not_false _ h.0)
+    go (Some r) h e = listed_decl u.decls r.name (not-false _ h.0)
 
 value_has_kind : (a : Entity) → not (is_variable_or_constant a) ≡ false → is_some (kind_of_entity a) ≡ true
 value_has_kind Unknown h = absurd (false≢true (sym h))
@@ -156,14 +157,14 @@ value_has_kind (Constant d) h = refl
 value_has_kind (Procedure v) h = absurd (false≢true (sym h))
 
 module _ (q : plain.Program) (results : Each q.units ResultHasKind) where
-  referred_has_kind : (a : Entity) → Sees q ResultHasKind results a → is_array a || is_function a ≡ true → is_some (kind_of_entity a) ≡ true
-  referred_has_kind Unknown s h = h
-  referred_has_kind (Variable home d) s h = refl
-  referred_has_kind (Constant d) s h = refl
-  referred_has_kind (Procedure v) s h = s h
+  referred_has_kind : (x : Text) (a : Entity) → Sees q ResultHasKind results x a → is_array a || is_function a ≡ true → is_some (kind_of_entity a) ≡ true
+  referred_has_kind x Unknown s h = h
+  referred_has_kind x (Variable home d) s h = refl
+  referred_has_kind x (Constant d) s h = refl
+  referred_has_kind x (Procedure v) s h = s.0 h
 
   no_intrinsic : {A : Type 0} (o : Option A) (b : Bool) → o ≡ None → not (is_some o || b) ≡ false → b ≡ true
-  no_intrinsic o b own h = not_false _ (subst (λ p. not (is_some p || b) ≡ false) own h)
+  no_intrinsic o b own h = not-false _ (subst (λ p. not (is_some p || b) ≡ false) own h)
 
   module _ (u : Unit) where
     abbrev entity : Text → Entity
@@ -177,7 +178,7 @@ module _ (q : plain.Program) (results : Each q.units ResultHasKind) where
 
     read_named : (e : Expr) → ReadName e × ReadReference e → NamedHasKind entity e
     read_named (Name x at) h = value_has_kind (entity x) h.0.0
-    read_named (Reference x subs at) h = λ own. referred_has_kind (entity x) (sees q ResultHasKind results (bare_unit u) x) (no_intrinsic (intrinsic_named x) _ own h.1.0)
+    read_named (Reference x subs at) h = λ own. referred_has_kind x (entity x) (sees q ResultHasKind results (bare_unit u) x) (no_intrinsic (intrinsic_named x) _ own h.1.0)
     read_named (Numeral n suffix at) h = tt
     read_named (Boolean b at) h = tt
     read_named (Signed sign e at) h = tt
@@ -196,11 +197,11 @@ module _ (q : plain.Program) (results : Each q.units ResultHasKind) where
     all_named : (step : Step) → undeclared_in_step entity step ≡ [] → unit_faults_in_step entity step ≡ [] → Each (parts_of step) (NamedHasKind entity)
     all_named step undeclared unknown =
         let bare : Each (parts_read step) ReadName =
-        each_of_parts bare_name (λ n. is_no_value entity n ≡ false) (parts_read step) (none_where (is_no_value entity) _ (left_empty _ _ undeclared)) in
+        each_flat bare_name (λ n. is_no_value entity n ≡ false) (parts_read step) (none_where (is_no_value entity) _ (left_empty _ _ undeclared)) in
         let left : Each (left_of step) (λ e. Each (name_in e) (λ n. is_no_value entity n ≡ false)) =
-        each_of_parts name_in (λ n. is_no_value entity n ≡ false) (left_of step) (none_where (is_no_value entity) _ (left_empty _ _ (right_empty _ _ undeclared))) in
+        each_flat name_in (λ n. is_no_value entity n ≡ false) (left_of step) (none_where (is_no_value entity) _ (left_empty _ _ (right_empty _ _ undeclared))) in
         let references : Each (parts_read step) ReadReference =
-        each_of_parts name_before_parenthesis (λ n. not (is_some (intrinsic_named n.name) || (is_array (entity n.name) || is_function (entity n.name))) ≡ false) (parts_read step)
+        each_flat name_before_parenthesis (λ n. not (is_some (intrinsic_named n.name) || (is_array (entity n.name) || is_function (entity n.name))) ≡ false) (parts_read step)
         (none_where (λ n. not (is_some (intrinsic_named n.name) || (is_array (entity n.name) || is_function (entity n.name)))) _ (left_empty _ _ (right_empty _ _ unknown))) in
         each_append (NamedHasKind entity) (left_of step) (parts_read step) (each_by (left_of step) left_named left)
         (each_by (parts_read step) read_named (both_of ReadName ReadReference (parts_read step) bare references))
@@ -220,7 +221,7 @@ module _ (q : plain.Program) (results : Each q.units ResultHasKind) where
         let ranks : Each (parts_of step) (λ e. rank_faults_of_part entity e ≡ []) =
         each_empty (rank_faults_of_part entity) (parts_of step) (left_empty _ _ (right_empty _ _ none.ranks)) in
         let counts : Each (parts_of step) (λ e. Each (reference e) (λ s. not (intrinsic_takes (intrinsic_named s.name.name) (count_of s.args)) ≡ false)) =
-        each_of_parts reference (λ s. not (intrinsic_takes (intrinsic_named s.name.name) (count_of s.args)) ≡ false) (parts_of step)
+        each_flat reference (λ s. not (intrinsic_takes (intrinsic_named s.name.name) (count_of s.args)) ≡ false) (parts_of step)
         (each_by (flat_map reference (parts_of step)) (λ (s : Site) h. not_placed _ _ h) (each_empty _ (flat_map reference (parts_of step)) (right_empty _ _ none.counts))) in
         each_by (parts_of step) (λ e h. record { named = h.0.0; kinds = h.0.1; ranges = left_empty _ _ (right_empty _ _ (right_empty _ _ h.1.0)); counts = h.1.1 })
         (both_of _ _ (parts_of step)
@@ -251,7 +252,7 @@ module _ (q : plain.Program) (results : Each q.units ResultHasKind) where
 
 -- what holds of each scope holds of each unit
 of_units : (p : Program) (P : Scope → Type 0) → Each (scopes p) P → Each p.units (λ u. P (Of_unit u))
-of_units p P all = each_before_map Of_unit P p.units (each_in_append P _ _ all)
+of_units p P all = each_before_map Of_unit P p.units (each_right P _ _ all)
 
 -- each step of a sound program is settled, and has no fault of kinds
 pub all_known : (mode : Mode) (file : File) → Sound mode file

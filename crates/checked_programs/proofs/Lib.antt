@@ -1,11 +1,9 @@
 mod AllKinds
 mod DeclsKnown
-mod Empties
 mod KindsFit
 mod KindsKnown
 mod Lefts
 mod PartsFit
 mod RanksFit
 mod RulesKept
-mod Seen
 mod SoundPrograms

@@ -1,7 +1,7 @@
 -- A part of an expression in which no fault of kinds stands takes what it needs, and has a kind, where what stands right inside
 -- it has kinds.
 use Rattle.std.proofs.Common.{◌≡◌, ℕ, List, [], ◌∷◌, ◌++◌, Bool, true, false, ◌&&◌, ◌||◌, not, cond, Option, None, Some, refl, sym, ap, subst, ◌∙◌}
-use Rattle.std.proofs.lemmas.Bool.{false≢true}
+use Rattle.std.proofs.lemmas.Bool.{false≢true, not-false}
 use denote.Enum.Bare.{same_true}
 use Rattle.std.specs.Prelude.{⊤, flat_map, is_some, is_none}
 use Rattle.fort_arith.specs.contracts.kind.Kind.{the_type as kind_type}
@@ -25,10 +25,9 @@ use Rattle.sound_programs.specs.Placed.{Expr, Numeral, Boolean, Name, Reference,
 use Rattle.sound_programs.specs.RankFaults.{range_as_argument}
 use Rattle.sound_programs.specs.Scopes.{is_array}
 use Rattle.sound_programs.specs.Walks.{Site, reference, in_limit, in_subscripts, single_subscripts, section_bounds, section_places, count_of}
-use Rattle.sound_programs.proofs.SoundLaws.{left_empty, right_empty}
-use Rattle.sound_programs.proofs.WithinLists.{each_append}
+use Rattle.sound_programs.proofs.WithinLists.{each_append, each_by, each_right, each_left}
+use Rattle.sound_programs.proofs.Empties.{left_empty, right_empty, no_head, not_placed, then_true, not_none}
 use Rattle.checked_programs.specs.Fitting.{EachTwo, NamesKind, HasKind, IsInteger, IsLogical, FitsOperator, FitsSign, AreOfOneKind, ArgumentsFit, SubscriptsFit, PartFits}
-use Rattle.checked_programs.proofs.Empties.{no_head, each_by, not_placed, not_false, then_true, not_none, each_in_append, each_before_append}
 
 -- ---- Kinds that are known
 
@@ -84,18 +83,18 @@ module _ (Q : Expr → Type 0) where
   each_single No_more all = tt
   each_single (One e rest) all = (all.0, each_single rest all.1)
   each_single (Section lower upper at rest) all =
-      each_single rest (each_in_append Q (in_limit upper) (in_subscripts rest) (each_in_append Q (in_limit lower) (in_limit upper ++ in_subscripts rest) all))
+      each_single rest (each_right Q (in_limit upper) (in_subscripts rest) (each_right Q (in_limit lower) (in_limit upper ++ in_subscripts rest) all))
 
   pub each_bound : (subs : Subscripts) → Each (in_subscripts subs) Q → Each (section_bounds subs) Q
   each_bound No_more all = tt
   each_bound (One e rest) all = each_bound rest all.1
   each_bound (Section lower upper at rest) all =
-      let behind : Each (in_limit upper ++ in_subscripts rest) Q = each_in_append Q (in_limit lower) (in_limit upper ++ in_subscripts rest) all in
+      let behind : Each (in_limit upper ++ in_subscripts rest) Q = each_right Q (in_limit lower) (in_limit upper ++ in_subscripts rest) all in
       each_append Q (in_limit lower) (in_limit upper ++ section_bounds rest)
-      (each_before_append Q (in_limit lower) (in_limit upper ++ in_subscripts rest) all)
+      (each_left Q (in_limit lower) (in_limit upper ++ in_subscripts rest) all)
       (each_append Q (in_limit upper) (section_bounds rest)
-      (each_before_append Q (in_limit upper) (in_subscripts rest) behind)
-      (each_bound rest (each_in_append Q (in_limit upper) (in_subscripts rest) behind)))
+      (each_left Q (in_limit upper) (in_subscripts rest) behind)
+      (each_bound rest (each_right Q (in_limit upper) (in_subscripts rest) behind)))
 
 module _ (entity : Text → Entity) where
   -- what stands right inside a part has kinds
@@ -191,7 +190,7 @@ module _ (entity : Text → Entity) where
   subscripts_fit None false subs known none = tt
 
   pub part_fits : (e : Expr) → InsideHasKinds e → kind_faults_of_part entity e ≡ [] → PartFits entity e
-  part_fits (Numeral n suffix at) known none = not_false _ (not_placed _ _ none)
+  part_fits (Numeral n suffix at) known none = not-false _ (not_placed _ _ none)
   part_fits (Boolean b at) known none = tt
   part_fits (Name x at) known none = tt
   part_fits (Reference x subs at) known none = (
@@ -290,7 +289,7 @@ module _ (entity : Text → Entity) where
   part_known (Name x at) known none = none.named
   part_known (Reference x subs at) known none =
       reference_known (intrinsic_named x) (is_array (entity x)) (kind_of_entity (entity x)) subs none.named none.ranges
-      (part_fits (Reference x subs at) known none.kinds).0 (not_false _ none.counts.0)
+      (part_fits (Reference x subs at) known none.kinds).0 (not-false _ none.counts.0)
   part_known (Signed sign e at) known none = sign_known sign e (part_fits (Signed sign e at) known none.kinds)
   part_known (Binary op a b) known none =
       let fit = part_fits (Binary op a b) known none.kinds in operation_known (is_arithmetic op) (is_relation op) (kind entity a) (kind entity b) fit.0.0 fit.1.0

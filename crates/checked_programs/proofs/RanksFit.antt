@@ -1,7 +1,7 @@
 -- In a sound program each step has the ranks that it needs.
 use Rattle.std.proofs.Common.{◌≡◌, ℕ, zero, suc, List, [], ◌∷◌, ◌++◌, length, Bool, true, false, ◌&&◌, not, cond, Option, Some, refl, subst, arith}
 use Rattle.std.proofs.lemmas.Bool.Decides.{nat_tests}
-use Rattle.std.proofs.lemmas.Bool.{false≢true, or_parts, eqb-true, eq-eqb}
+use Rattle.std.proofs.lemmas.Bool.{false≢true, or_parts, eqb-true, eq-eqb, not-false}
 use Rattle.std.specs.Prelude.{flat_map, is_none, nat_eq, nat_lt}
 use Rattle.std.specs.Option.{option_to_list}
 use Rattle.fort_tree.specs.Intrinsic.{intrinsic_named}
@@ -19,9 +19,10 @@ use Rattle.sound_programs.specs.Ranking.{Operand, operands, rank, first_other, d
 use Rattle.sound_programs.specs.Scopes.{Of_unit, scopes, is_array}
 use Rattle.sound_programs.specs.Sound.{Sound}
 use Rattle.sound_programs.specs.Walks.{Stands, Step, Assigns, Calls, Tests, Chooses, Repeats, Actual, actuals, sites, steps_of, parts_of, in_head}
-use Rattle.sound_programs.proofs.SoundLaws.{empty_if_nowhere, left_empty, right_empty}
+use Rattle.sound_programs.proofs.SoundLaws.{empty_if_nowhere}
+use Rattle.sound_programs.proofs.Empties.{left_empty, right_empty, no_head, each_from, each_empty, not_placed, then_true, chosen_empty, other_empty}
+use Rattle.sound_programs.proofs.WithinLists.{each_by, each_right, each_before_map}
 use Rattle.checked_programs.specs.Fitting.{AreOfOneRank, IsScalar, IsOfOneRank, PartIsRanked, WholesAreRanked, ActualIsRanked, HasFittingRanks, RanksFit}
-use Rattle.checked_programs.proofs.Empties.{no_head, each_by, each_from, each_empty, not_placed, not_false, then_true, chosen_empty, other_empty, each_in_append, each_before_map}
 
 -- ---- Ranks
 
@@ -68,7 +69,7 @@ module _ (entity : Text → Entity) where
       let arrays = left_empty _ _ last in
       record {
         counted = λ takes. eqb-true _ _ (as_many (is_none (intrinsic_named x)) (is_array (entity x)) _ (not_placed _ _ (left_empty _ _ none)) takes);
-        intrinsic = not_false _ (not_placed _ _ (left_empty _ _ rest));
+        intrinsic = not-false _ (not_placed _ _ (left_empty _ _ rest));
         sections = other_empty _ _ (left_empty _ _ later);
         subscripts = λ takes. all_scalar _ (chosen_empty _ _ (left_empty _ _ arrays) takes);
         bounds = all_scalar _ (right_empty _ _ arrays);
@@ -84,7 +85,7 @@ module _ (entity : Text → Entity) where
   one_actual e d h =
       let both : (not (nat_eq (rank entity e) (length d.shape)) ≡ false) × (nat_lt 0 (rank entity e) && not (is_array_reference entity e) ≡ false) =
       or_parts _ _ h in (
-        eqb-true _ _ (not_false _ both.0),
+        eqb-true _ _ (not-false _ both.0),
         then_true _ _ both.1,
       )
 
@@ -132,7 +133,7 @@ ranks_fit mode file sound =
     let none : rank_faults mode p ≡ [] = empty_if_nowhere (rank_faults mode p) sound.ranks_fit in
     let in_scopes : Each (scopes p) (λ s. rank_faults_in_scope mode q s ≡ []) = each_empty (rank_faults_in_scope mode q) (scopes p) none in
     let in_units : Each p.units (λ u. rank_faults_in_scope mode q (Of_unit u) ≡ []) =
-    each_before_map Of_unit (λ s. rank_faults_in_scope mode q s ≡ []) p.units (each_in_append (λ s. rank_faults_in_scope mode q s ≡ []) _ _ in_scopes) in
+    each_before_map Of_unit (λ s. rank_faults_in_scope mode q s ≡ []) p.units (each_right (λ s. rank_faults_in_scope mode q s ≡ []) _ _ in_scopes) in
     each_by p.units (λ u e.
     each_from (λ (s : Stands). rank_faults_in_step (entity_of file u) s.step) (steps_of u) (λ s h. ranks_of_one_step (entity_of file u) s.step h)
     (right_empty _ _ (right_empty _ _ e))) in_units

@@ -1,6 +1,6 @@
 -- A sound program keeps the rules on arguments, writes and loop variables.
 use Rattle.std.proofs.Common.{◌≡◌, ℕ, List, [], ◌∷◌, ◌++◌, length, Bool, true, false, ◌&&◌, ◌||◌, not, Option, None, Some, refl, sym, subst}
-use Rattle.std.proofs.lemmas.Bool.{false≢true, or_parts, eqb-true}
+use Rattle.std.proofs.lemmas.Bool.{false≢true, or_parts, eqb-true, not-false}
 use Rattle.std.specs.Prelude.{flat_map, is_some, is_none, IsTrue}
 use Rattle.std.specs.List.{filter, list_any}
 use Rattle.std.specs.Option.{option_to_list}
@@ -26,18 +26,19 @@ use Rattle.sound_programs.specs.Scopes.{Of_unit, scopes, is_dummy, is_prefix, un
 use Rattle.sound_programs.specs.Sound.{Sound}
 use Rattle.sound_programs.specs.Walks.{Stands, Step, Site, Actual, actuals, sites, steps_of, parts_of, reference, is_written, loop_variable, name_in, names_in}
 use Rattle.sound_programs.proofs.Chains.{reached_within}
-use Rattle.sound_programs.proofs.SoundLaws.{empty_if_nowhere, left_empty, right_empty, map_empty}
+use Rattle.sound_programs.proofs.SoundLaws.{empty_if_nowhere}
+use Rattle.sound_programs.proofs.Empties.{left_empty, right_empty, map_empty, each_from, each_empty, none_kept, none_where, each_if_kept, not_placed, other_false, then_true, chosen_empty, not_some}
+use Rattle.sound_programs.proofs.WithinLists.{each_by, each_right, each_before_map, both_of}
 use Rattle.checked_programs.specs.Fitting.{EachTwo}
 use Rattle.checked_programs.specs.Kept.{HasAllArguments, ArgumentsMatch, AreApart, NoneNames, IsHidden, ActualsAreAlone, WrittenActualsAreAlone, WritesAreAllowed, WritesNoModule, IsPure, IntentsAreKept, KeepsLoopVariables, LoopVariablesStayInside}
-use Rattle.checked_programs.proofs.Empties.{each_by, each_from, each_empty, none_kept, none_where, each_if_kept, not_placed, not_false, other_false, then_true, chosen_empty, not_some, each_in_append, each_before_map, both_of}
 
 -- ---- Arguments
 
 unit_is_counted : (o : Option plain.Unit) (n : ℕ) → not (unit_takes o n) ≡ false → (v : plain.Unit) → o ≡ Some v → n ≡ length v.dummies
-unit_is_counted o n h v e = eqb-true _ _ (not_false _ (subst (λ p. not (unit_takes p n) ≡ false) e h))
+unit_is_counted o n h v e = eqb-true _ _ (not-false _ (subst (λ p. not (unit_takes p n) ≡ false) e h))
 
 intrinsic_is_counted : (o : Option Intrinsic) (n : ℕ) → not (intrinsic_takes o n) ≡ false → (which : Intrinsic) → o ≡ Some which → takes which n ≡ true
-intrinsic_is_counted o n h which e = not_false _ (subst (λ p. not (intrinsic_takes p n) ≡ false) e h)
+intrinsic_is_counted o n h which e = not-false _ (subst (λ p. not (intrinsic_takes p n) ≡ false) e h)
 
 has_all_arguments : (entity : Text → Entity) (step : Step) → counts_differ entity step ≡ [] → HasAllArguments entity step
 has_all_arguments entity step none = record {
@@ -107,7 +108,7 @@ written_actuals_are_alone mode file sound =
 
 passed_is_writable : (entity : Text → Entity) (o : Option Expr) → flat_map (λ e. where_place (not (is_writable entity e)) (first e)) (option_to_list o) ≡ [] → (e : Expr) → o ≡ Some e → is_writable entity e ≡ true
 passed_is_writable entity o none e h =
-    not_false _ (not_placed _ _ (left_empty _ _
+    not-false _ (not_placed _ _ (left_empty _ _
     (subst (λ p. flat_map (λ e. where_place (not (is_writable entity e)) (first e)) (option_to_list p) ≡ []) h none)))
 
 writes_are_allowed : (entity : Text → Entity) (step : Step) → writes_fixed entity step ≡ [] → WritesAreAllowed entity step
@@ -164,7 +165,7 @@ intents_are_kept mode file sound =
     let in_units : Each p.units (λ u. write_faults_in_unit p q u ≡ []) = each_empty (write_faults_in_unit p q) p.units (empty_if_nowhere (write_faults p) sound.writes_are_allowed) in
     let in_scopes : Each (scopes p) (λ s. dummy_without_intent s ++ intent_without_dummy s ≡ []) = each_empty (λ s. dummy_without_intent s ++ intent_without_dummy s) (scopes p) (empty_if_nowhere (intent_faults p) sound.dummies_have_intent) in
     let dummies : Each p.units (λ u. dummy_without_intent (Of_unit u) ++ intent_without_dummy (Of_unit u) ≡ []) =
-    each_before_map Of_unit (λ s. dummy_without_intent s ++ intent_without_dummy s ≡ []) p.units (each_in_append (λ s. dummy_without_intent s ++ intent_without_dummy s ≡ []) _ _ in_scopes) in
+    each_before_map Of_unit (λ s. dummy_without_intent s ++ intent_without_dummy s ≡ []) p.units (each_right (λ s. dummy_without_intent s ++ intent_without_dummy s ≡ []) _ _ in_scopes) in
     record {
       writes = each_by p.units (λ (u : Unit) e.
           each_from (λ (s : Stands). writes_fixed (entity_of file u) s.step) (steps_of u) (λ s h. writes_are_allowed (entity_of file u) s.step h) (left_empty _ _ e)) in_units;
@@ -182,7 +183,7 @@ keeps_loop_variables entity u s none =
     let later = right_empty _ _ rest in
     let last = right_empty _ _ later in
     record {
-      local = each_by (loop_variable s.step) (λ n h. not_false _ h)
+      local = each_by (loop_variable s.step) (λ n h. not-false _ h)
           (none_where (λ n. not (is_local_integer u n.name)) _ (left_empty _ _ none));
       new = none_where (λ n. is_listed s.loops n.name) _ (right_empty _ _ last);
       inside = each_by (names_in s.step) (λ n h. then_true _ _ h)

@@ -1,5 +1,5 @@
 -- What is made of the sources is a translation of them.
-use Rattle.std.proofs.Common.{◌≡◌, ℕ, zero, suc, List, [], ◌∷◌, map, Some, None, Bool, false, refl, sym, ap, ◌∙◌, subst, length}
+use Rattle.std.proofs.Common.{◌≡◌, ℕ, List, [], map, Some, false, refl, sym, ap, ◌∙◌, subst, length}
 use Rattle.std.specs.Prelude.{slice_get}
 use Rattle.std.proofs.lemmas.List.{length-map}
 use Rattle.std.specs.List.{AllZip}
@@ -9,7 +9,7 @@ use Rattle.fort_tree.specs.declared.choice.Target.TheVariants.{Cpu}
 use Rattle.fort_tree.specs.declared.choice.Directives.TheVariants.{Plain}
 use Rattle.fort_tree.specs.declared.statement.Line.{Line}
 use Rattle.fort_tree.specs.declared.unit.File.{File}
-use Rattle.claw_meaning.specs.Syntax.{Text, Unit, Program}
+use Rattle.claw_meaning.specs.Syntax.{Unit, Program}
 use Rattle.claw_meaning.specs.Plain.{plain_file}
 use Rattle.claw_meaning.specs.Interface.{Interface}
 use Rattle.claw_meaning.specs.Erasure.{Erased}
@@ -19,10 +19,11 @@ use Rattle.fort_spell.specs.Units.{layout_of}
 use Rattle.fort_units.specs.Program.{IsProgram}
 use Rattle.layout_reading.specs.Programs.{IsPrintableFile, Spells}
 use Rattle.sound_programs.specs.Sound.{Sound}
+use Rattle.sound_programs.proofs.Empties.{left_empty}
 use Rattle.column_rules.specs.Rules.{broken}
-use Rattle.sound_programs.proofs.SoundLaws.{left_empty}
 use Rattle.translated_programs.specs.NotBuilt.{unbuilt}
 use Rattle.claw_top.specs.KeptBack.{kept_back}
+use Rattle.translated_programs.proofs.Translating.{mapped_at}
 use Rattle.translated_programs.specs.Translated.{translated, translated_unit, wide_in, IsTranslatable, as_it_is, for_all_columns, AreTranslatable}
 use Rattle.written_programs.specs.Writable.{IsWrittenAs, UnitByUnit}
 use Rattle.written_programs.specs.Writable as writable
@@ -43,20 +44,6 @@ pub record Laws : Type 0 where
   pub alone : (number : ℕ) (file other : File) → IsPrintableFile file → Spells number (layout_of file) other → plain_file other ≡ plain_file file
 
 -- ---- each unit is written
-
-no_such : {A B : Type 0} (a : A) → None ≡ Some a → B
-no_such a e = absurd (none_some a e)
-  where
-    none_some : {A : Type 0} (a : A) → None ≡ Some a → ⊥
-    none_some a e = cc
-
-mapped_at : {A B : Type 0} (f : A → B) (xs : List A) (i : ℕ) (x : A) (y : B) → slice_get xs i ≡ Some x → slice_get (map f xs) i ≡ Some y → y ≡ f x
-mapped_at f [] i x y e h = no_such x e
-mapped_at f (z ∷ xs) zero x y e h = sym (some_is (f z) y h) ∙ ap f (some_is z x e)
-  where
-    some_is : {A : Type 0} (a b : A) → Some a ≡ Some b → a ≡ b
-    some_is a b e = cc
-mapped_at f (z ∷ xs) (suc i) x y e h = mapped_at f xs i x y e h
 
 written_as : (u t : Unit) → IsTranslatable u → t ≡ translated_unit u → IsWrittenAs u t
 written_as u t (as_it_is undirected made) e = subst (IsWrittenAs u) (sym (e ∙ made)) (writable.as_it_is undirected)

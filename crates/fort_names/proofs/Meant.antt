@@ -19,6 +19,7 @@ use Rattle.sound_programs.specs.Placing.{placed, placed_unit, placed_module}
 use Rattle.sound_programs.specs.Scopes.{Of_unit, Of_module, is_known, or_other, entity_in, visible_in_module, declares, origin_used, origin_in, origin_within, origin}
 use Rattle.sound_programs.specs.Visible.{origin_of_host}
 use Rattle.sound_programs.proofs.BareTrees.{unit_bare, placed_is_plain}
+use Rattle.sound_programs.proofs.Origins.{known_or_else, known_decl, known_procedure}
 use Rattle.fort_names.specs.declared.entity.Entity.{Entity}
 use Rattle.fort_names.specs.declared.entity.Home.{Home}
 use Rattle.fort_names.specs.declared.entity.Home.TheVariants as home
@@ -88,24 +89,6 @@ unknown_is Unknown e = refl
 unknown_is (Variable home d) e = absurd (false≢true (sym e))
 unknown_is (Constant d) e = absurd (false≢true (sym e))
 unknown_is (Procedure v) e = absurd (false≢true (sym e))
-
-known_or_else : (a b : Meant) → is_known (or_else a b) ≡ (is_known a || is_known b)
-known_or_else Unknown b = refl
-known_or_else (Variable home d) b = refl
-known_or_else (Constant d) b = refl
-known_or_else (Procedure v) b = refl
-
-known_decl : (home : Text) (d : Option plain.Decl) → is_known (entity_of home d) ≡ is_some d
-known_decl home None = refl
-known_decl home (Some d) = go (is_some d.value)
-  where
-    go : (b : Bool) → is_known (cond b (Constant d) (Variable home d)) ≡ true
-    go true = refl
-    go false = refl
-
-known_procedure : (v : Option plain.Unit) → is_known (procedure_of v) ≡ is_some v
-known_procedure None = refl
-known_procedure (Some v) = refl
 
 -- ---- what a module declares
 

@@ -22,7 +22,7 @@ use Rattle.sound_programs.specs.Places.{same_place, is_earlier}
 use Rattle.sound_programs.specs.RankFaults.{rank_faults}
 use Rattle.sound_programs.specs.Sound.{Sound, IsNested}
 use Rattle.sound_programs.proofs.OnFiles.{nowhere}
-use Rattle.sound_programs.proofs.SoundLaws.{left_empty, right_empty, map_empty}
+use Rattle.sound_programs.proofs.Empties.{left_empty, right_empty, map_empty}
 
 -- ---- The order of faults
 

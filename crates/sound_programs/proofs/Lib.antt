@@ -3,6 +3,9 @@ pub mod OnFiles
 pub mod NestingOfSound
 pub mod BareTrees
 pub mod Chains
+pub mod Empties
+pub mod LeftSides
+pub mod SeenUnits
 pub mod SoundLaws
 pub mod OneTree
 pub mod OneFile

@@ -8,7 +8,7 @@ use Rattle.claw_meaning.specs.Syntax.{Text}
 use Rattle.claw_meaning.specs.Scope.{Entity, Unknown, Variable, Constant, Procedure, or_else, entity_of, procedure_of, decl_named, unit_within, brings, used, given_by, module_at, gives, module_gives}
 use Rattle.sound_programs.specs.Scopes.{is_known, or_other, origin_used, origin_in, origin_within, origin}
 
-known_or_else : (a b : Entity) → is_known (or_else a b) ≡ (is_known a || is_known b)
+pub known_or_else : (a b : Entity) → is_known (or_else a b) ≡ (is_known a || is_known b)
 known_or_else Unknown b = refl
 known_or_else (Variable home d) b = refl
 known_or_else (Constant d) b = refl
@@ -18,7 +18,7 @@ some_or_other : (a b : Option Text) → is_some (or_other a b) ≡ (is_some a ||
 some_or_other None b = refl
 some_or_other (Some m) b = refl
 
-known_decl : (home : Text) (d : Option plain.Decl) → is_known (entity_of home d) ≡ is_some d
+pub known_decl : (home : Text) (d : Option plain.Decl) → is_known (entity_of home d) ≡ is_some d
 known_decl home None = refl
 known_decl home (Some d) = go (is_some d.value)
   where
@@ -26,7 +26,7 @@ known_decl home (Some d) = go (is_some d.value)
     go true = refl
     go false = refl
 
-known_procedure : (v : Option plain.Unit) → is_known (procedure_of v) ≡ is_some v
+pub known_procedure : (v : Option plain.Unit) → is_known (procedure_of v) ≡ is_some v
 known_procedure None = refl
 known_procedure (Some v) = refl
 

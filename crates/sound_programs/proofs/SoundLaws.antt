@@ -1,6 +1,6 @@
 -- What holds of every sound program.
-use Rattle.std.proofs.Common.{◌≡◌, List, [], ◌∷◌, ◌++◌, map, Bool, true, false, ◌&&◌, ◌||◌, not, cond, refl, sym, ap, subst, ◌∙◌}
-use Rattle.std.proofs.lemmas.Bool.{and_from, eq-eqb, false≢true}
+use Rattle.std.proofs.Common.{◌≡◌, List, [], ◌∷◌, ◌++◌, map, true, false, ◌&&◌, ◌||◌, not, cond, refl, sym, ap, subst, ◌∙◌}
+use Rattle.std.proofs.lemmas.Bool.{and_from, eq-eqb, false≢true, not-false}
 use Rattle.std.specs.Prelude.{flat_map, nat_eq}
 use Rattle.std.specs.List.{filter, list_any, IsDistinct}
 use Rattle.std.specs.Str.{bytes_eq}
@@ -21,13 +21,15 @@ use Rattle.sound_programs.specs.Links.{is_on_cycle}
 use Rattle.sound_programs.specs.NameFaults.{places_where, undeclared_names, undeclared_in_scope, undeclared_in_step, unit_faults, unit_faults_in_step, is_no_value}
 use Rattle.sound_programs.specs.Placed.{bare_program}
 use Rattle.sound_programs.specs.Placing.{placed}
-use Rattle.sound_programs.specs.Places.{At, same_place, where_place, the_first, earlier_of, first_of, later_of}
+use Rattle.sound_programs.specs.Places.{At, same_place, where_place, later_of}
 use Rattle.sound_programs.specs.Scopes.{Of_unit, scopes, declared}
 use Rattle.sound_programs.specs.Sound.{Sound, Nowhere}
 use Rattle.sound_programs.specs.Walks.{Stands, steps_of, parts_read, bare_name, call_name}
 use Rattle.sound_programs.proofs.Chains.{reached_within}
+use Rattle.sound_programs.proofs.Empties.{first_empty, left_empty, right_empty, map_empty, each_empty, none_kept, none_where, not_placed}
+use Rattle.sound_programs.proofs.WithinLists.{each_by, each_of_map, each_right, each_before_map}
 
--- ---- Lists of places that are empty
+-- ---- Places
 
 same_place-refl : (a : Place) → same_place a a ≡ true
 same_place-refl a =
@@ -42,48 +44,6 @@ pub empty_if_nowhere : (places : List Place) → Nowhere (At places) → places 
 empty_if_nowhere [] none = refl
 empty_if_nowhere (a ∷ rest) none = absurd (none a (at_head a rest))
 
-no_head : {A : Type 0} (x : A) (xs : List A) → x ∷ xs ≡ [] → ⊥
-no_head x xs e = cc
-
-pub left_empty : {A : Type 0} (xs ys : List A) → xs ++ ys ≡ [] → xs ≡ []
-left_empty [] ys e = refl
-left_empty (x ∷ xs) ys e = absurd (no_head x (xs ++ ys) e)
-
-pub right_empty : {A : Type 0} (xs ys : List A) → xs ++ ys ≡ [] → ys ≡ []
-right_empty [] ys e = e
-right_empty (x ∷ xs) ys e = absurd (no_head x (xs ++ ys) e)
-
-each_empty : {A B : Type 0} (f : A → List B) (xs : List A) → flat_map f xs ≡ [] → Each xs (λ x. f x ≡ [])
-each_empty f [] e = tt
-each_empty f (x ∷ xs) e = (left_empty (f x) (flat_map f xs) e, each_empty f xs (right_empty (f x) (flat_map f xs) e))
-
-each_by : {A : Type 0} {P Q : A → Type 0} (xs : List A) → ((x : A) → P x → Q x) → Each xs P → Each xs Q
-each_by [] by all = tt
-each_by (x ∷ xs) by all = (by x all.0, each_by xs by all.1)
-
-none_kept : {A : Type 0} (test : A → Bool) (xs : List A) → filter test xs ≡ [] → Each xs (λ x. test x ≡ false)
-none_kept test [] e = tt
-none_kept test (x ∷ xs) e = go (none_kept test xs) (test x) refl
-  where
-    go : (filter test xs ≡ [] → Each xs (λ x. test x ≡ false)) → (b : Bool) → test x ≡ b → Each (x ∷ xs) (λ x. test x ≡ false)
-    go rest true h = absurd (no_head x (filter test xs) (subst (λ b. cond b (x ∷ filter test xs) (filter test xs) ≡ []) h e))
-    go rest false h = (h, rest (subst (λ b. cond b (x ∷ filter test xs) (filter test xs) ≡ []) h e))
-
-pub map_empty : {A B : Type 0} (f : A → B) (xs : List A) → map f xs ≡ [] → xs ≡ []
-map_empty f [] e = refl
-map_empty f (x ∷ xs) e = absurd (no_head (f x) (map f xs) e)
-
-first_empty : (places : List Place) → the_first places ≡ [] → places ≡ []
-first_empty [] e = refl
-first_empty (a ∷ rest) e = absurd (no_head (earlier_of a (first_of rest)) [] e)
-
-none_where : (test : Named → Bool) (names : List Named) → places_where test names ≡ [] → Each names (λ n. test n ≡ false)
-none_where test names e = none_kept test names (map_empty (λ (n : Named). n.at) (filter test names) e)
-
-not_false : (b : Bool) → not b ≡ false → b ≡ true
-not_false true e = refl
-not_false false e = sym e
-
 -- ---- Cycles
 
 pub no_cycle : (mode : Mode) (file : File) → Sound mode file → HasNoCycle file
@@ -97,15 +57,7 @@ no_cycle mode file sound =
 
 -- ---- Names
 
-not_placed : (b : Bool) (place : Place) → where_place b place ≡ [] → b ≡ false
-not_placed true place e = absurd (no_head place [] e)
-not_placed false place e = refl
-
-each_of_map : {A B : Type 0} (f : A → B) (P : B → Type 0) (xs : List A) → Each xs (λ x. P (f x)) → Each (map f xs) P
-each_of_map f P [] all = tt
-each_of_map f P (x ∷ xs) all = (all.0, each_of_map f P xs all.1)
-
-distinct : (names : List Named) → seconds names ≡ [] → IsDistinct bytes_eq (map (λ n. n.name) names)
+pub distinct : (names : List Named) → seconds names ≡ [] → IsDistinct bytes_eq (map (λ n. n.name) names)
 unfolding IsDistinct
 distinct [] e = tt
 distinct (n ∷ rest) e =
@@ -127,15 +79,6 @@ declares_once mode file sound =
     (λ s e. distinct (declared p s) (left_empty (two_declarations p s) _ e))
     (each_empty (declared_twice_in p q) (scopes p) (left_empty (flat_map (declared_twice_in p q) (scopes p)) _ none))
 
--- what holds of each scope holds of each unit
-each_in_append : {A : Type 0} (P : A → Type 0) (xs ys : List A) → Each (xs ++ ys) P → Each ys P
-each_in_append P [] ys all = all
-each_in_append P (x ∷ xs) ys all = each_in_append P xs ys all.1
-
-each_before_map : {A B : Type 0} (f : A → B) (P : B → Type 0) (xs : List A) → Each (map f xs) P → Each xs (λ x. P (f x))
-each_before_map f P [] all = tt
-each_before_map f P (x ∷ xs) all = (all.0, each_before_map f P xs all.1)
-
 pub names_are_known : (mode : Mode) (file : File) → Sound mode file → NamesAreKnown file
 names_are_known mode file sound =
     let p = placed file in
@@ -143,10 +86,10 @@ names_are_known mode file sound =
     let none : undeclared_names p ≡ [] = empty_if_nowhere (undeclared_names p) sound.each_name_is_declared in
     let in_scopes : Each (scopes p) (λ s. undeclared_in_scope q s ≡ []) = each_empty (undeclared_in_scope q) (scopes p) none in
     let in_units : Each p.units (λ u. undeclared_in_scope q (Of_unit u) ≡ []) =
-    each_before_map Of_unit (λ s. undeclared_in_scope q s ≡ []) p.units (each_in_append (λ s. undeclared_in_scope q s ≡ []) _ (map Of_unit p.units) in_scopes) in
+    each_before_map Of_unit (λ s. undeclared_in_scope q s ≡ []) p.units (each_right (λ s. undeclared_in_scope q s ≡ []) _ (map Of_unit p.units) in_scopes) in
     each_by p.units (λ u e.
     each_by (steps_of u) (λ s h.
-    each_by (flat_map bare_name (parts_read s.step)) (λ n known. not_false _ known)
+    each_by (flat_map bare_name (parts_read s.step)) (λ n known. not-false _ known)
     (none_where (is_no_value (entity_of file u)) (flat_map bare_name (parts_read s.step)) (left_empty (places_where (is_no_value (entity_of file u)) (flat_map bare_name (parts_read s.step))) _ h)))
     (each_empty (λ s. undeclared_in_step (entity_of file u) s.step) (steps_of u) (left_empty (flat_map (λ (s : Stands). undeclared_in_step (entity_of file u) s.step) (steps_of u)) _ e)))
     in_units
@@ -157,7 +100,7 @@ calls_are_known mode file sound =
     let none : unit_faults p ≡ [] = empty_if_nowhere (unit_faults p) sound.calls_name_units in
     each_by p.units (λ u e.
     each_by (steps_of u) (λ s h.
-    each_by (call_name s.step) (λ n known. not_false _ known)
+    each_by (call_name s.step) (λ n known. not-false _ known)
     (none_where _ (call_name s.step) (left_empty _ _ h)))
     (each_empty (λ s. unit_faults_in_step (entity_of file u) s.step) (steps_of u) e))
     (each_empty _ p.units none)

@@ -9,7 +9,7 @@ use Rattle.fort_tree.specs.declared.stmt.Directive.{Directive}
 use Rattle.fort_tree.specs.declared.unit.File.{File}
 use Rattle.fort_tree.specs.declared.unit.Unit as tree
 use Rattle.claw_meaning.specs.Syntax as plain
-use Rattle.claw_meaning.specs.Syntax.{Text, Expr, Name}
+use Rattle.claw_meaning.specs.Syntax.{Text, Name}
 use Rattle.claw_meaning.specs.Scope.{same_host, unit_within}
 use Rattle.claw_meaning.specs.Plain.{plain_unit, plain_directive, plain_option, plain_file}
 use Rattle.claw_meaning.specs.Units.{is_column_unit}
@@ -19,15 +19,12 @@ use Rattle.column_scalars.proofs.MemberCases.{same_itself, names_apart}
 use Rattle.scalar_units.specs.Unbuilt.{unless, of_unit}
 use Rattle.sound_programs.specs.Laws.{Each}
 use Rattle.sound_programs.specs.Placing.{placed_stmts}
-use Rattle.sound_programs.proofs.SoundLaws.{left_empty, right_empty, map_empty}
+use Rattle.sound_programs.proofs.Empties.{no_head, left_empty, right_empty, map_empty, each_empty}
+use Rattle.sound_programs.proofs.WithinLists.{each_by}
 use Rattle.translated_programs.specs.Directed.{directed_in}
 use Rattle.translated_programs.specs.NotBuilt.{is_column, is_external, names_of, names_column_unit, is_global, is_new_bound, are_new, of_names, of_column_unit, of_plain_unit, of_any_unit, unbuilt}
 use Rattle.translated_programs.specs.Translated.{HasItsDimension}
 use Rattle.translated_programs.specs.UnitLaws.{BuiltLaw}
-use Rattle.translated_programs.proofs.Lists.{each_by, each_empty}
-
-no_head : {A : Type 0} (x : A) (xs : List A) → x ∷ xs ≡ [] → ⊥
-no_head x xs e = cc
 
 same_head : {A : Type 0} (x y : A) (xs ys : List A) → x ∷ xs ≡ y ∷ ys → x ≡ y
 same_head x y xs ys e = cc

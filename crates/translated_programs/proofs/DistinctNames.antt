@@ -5,7 +5,6 @@ use Rattle.std.specs.List.{find, enumerate_from, IsDistinct}
 use Rattle.std.specs.Str.{bytes_eq}
 use Rattle.std.proofs.lemmas.Bool.{false≢true}
 use Rattle.fort_tree.specs.declared.choice.Mode.{Mode}
-use Rattle.fort_tree.specs.declared.place.Place.{Place}
 use Rattle.fort_tree.specs.declared.stmt.Named.{Named}
 use Rattle.fort_tree.specs.declared.unit.Decl as tree_decl
 use Rattle.fort_tree.specs.declared.unit.Unit as tree_unit
@@ -16,37 +15,17 @@ use Rattle.claw_meaning.specs.Plain.{plain_decl, plain_unit, plain_module}
 use Rattle.column_scalars.specs.Scalars.{Distinct}
 use Rattle.column_scalars.specs.Standing.{DeclareOnce}
 use Rattle.column_scalars.proofs.MemberCases.{contains_none, contains_cases, same_itself}
-use Rattle.sound_programs.specs.DeclarationFaults.{clashes, seconds, declared_twice, declared_twice_in, two_units_or_modules}
+use Rattle.sound_programs.specs.DeclarationFaults.{declared_twice, declared_twice_in, two_units_or_modules}
 use Rattle.sound_programs.specs.Laws.{Each, DeclaresOnce}
 use Rattle.sound_programs.specs.Placed.{Module, bare_program}
-use Rattle.sound_programs.specs.Places.{where_place, later_of}
 use Rattle.sound_programs.specs.Placing.{placed, placed_decl, placed_unit, placed_module}
 use Rattle.sound_programs.specs.Scopes.{Of_unit, Of_module, scopes, declared, named_decl, named_unit, named_module, units_within}
 use Rattle.sound_programs.specs.Sound.{Sound}
-use Rattle.sound_programs.proofs.SoundLaws.{empty_if_nowhere, left_empty, right_empty}
-use Rattle.translated_programs.proofs.Lists.{each_by, each_two, each_left, each_right, each_of_map, each_before_map, each_empty}
+use Rattle.sound_programs.proofs.SoundLaws.{empty_if_nowhere, distinct}
+use Rattle.sound_programs.proofs.Empties.{right_empty}
+use Rattle.sound_programs.proofs.WithinLists.{each_by, each_two, each_left, each_right, each_before_map}
 
 -- ---- Lists of names
-
-not_placed : (b : Bool) (place : Place) → where_place b place ≡ [] → b ≡ false
-not_placed true place e = absurd (no_head place [] e)
-  where
-    no_head : (x : Place) (xs : List Place) → x ∷ xs ≡ [] → ⊥
-    no_head x xs e = cc
-not_placed false place e = refl
-
-distinct : (names : List Named) → seconds names ≡ [] → IsDistinct bytes_eq (map (λ n. n.name) names)
-unfolding IsDistinct
-distinct [] e = tt
-distinct (n ∷ rest) e =
-    let with_rest : clashes (n ∷ []) rest ≡ [] = left_empty (clashes (n ∷ []) rest) (seconds rest) e in
-    let in_rest : flat_map (λ b. where_place (bytes_eq n.name b.name) (later_of n.at b.at)) rest ≡ [] =
-    left_empty (flat_map (λ b. where_place (bytes_eq n.name b.name) (later_of n.at b.at)) rest) [] with_rest in (
-      each_of_map (λ (m : Named). m.name) (λ y. bytes_eq n.name y ≡ false) rest
-          (each_by rest (λ b h. not_placed (bytes_eq n.name b.name) (later_of n.at b.at) h)
-          (each_empty (λ b. where_place (bytes_eq n.name b.name) (later_of n.at b.at)) rest in_rest)),
-      distinct rest (right_empty (clashes (n ∷ []) rest) (seconds rest) e),
-    )
 
 pub distinct_left : (xs ys : List Text) → IsDistinct bytes_eq (xs ++ ys) → IsDistinct bytes_eq xs
 unfolding IsDistinct

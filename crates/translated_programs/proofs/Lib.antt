@@ -1,11 +1,8 @@
 mod NamesAre
 mod Steps
-mod Lists
 mod Walking
-mod Lefts
 mod DistinctNames
-mod Seen
 mod PlainCalls
 mod BuiltUnits
 mod SoundUnits
-mod Translating
+pub mod Translating

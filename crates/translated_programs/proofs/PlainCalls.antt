@@ -18,17 +18,14 @@ use Rattle.sound_programs.specs.Placed as placed
 use Rattle.sound_programs.specs.Placed.{bare_unit}
 use Rattle.sound_programs.specs.Scopes.{is_array, is_function, is_variable_or_constant}
 use Rattle.sound_programs.specs.Walks.{Stands, steps_of, parts, parts_read, read_by, left_of, loop_variable, name_in, bare_name, name_before_parenthesis}
-use Rattle.sound_programs.proofs.SoundLaws.{left_empty, right_empty, map_empty}
+use Rattle.sound_programs.proofs.Empties.{left_empty, right_empty, map_empty, each_empty, none_kept}
+use Rattle.sound_programs.proofs.WithinLists.{each_by, each_two, each_flat}
+use Rattle.sound_programs.proofs.LeftSides.{HaveLefts}
+use Rattle.sound_programs.proofs.SeenUnits.{Sees, sees}
 use Rattle.translated_programs.specs.Directed.{directed_in}
-use Rattle.translated_programs.proofs.Lists.{each_by, each_two, each_flat, each_empty, none_kept}
-use Rattle.translated_programs.proofs.Walking.{HaveLefts, StepSo, PartSo, all_call}
-use Rattle.translated_programs.proofs.Seen.{Sees, sees}
+use Rattle.translated_programs.proofs.Walking.{StepSo, PartSo, all_call}
 
 -- ---- What a name runs
-
-not_false : (b : Bool) → not b ≡ false → b ≡ true
-not_false true e = refl
-not_false false e = sym e
 
 never : (b : Bool) → (b ≡ true → ⊥) → b ≡ false
 never true h = absurd (h refl)
@@ -110,10 +107,10 @@ module _ (p : Program) (is_named : Text → Bool) (all : Each p.units (Known p i
         let read : refers_to_nothing entity step ≡ [] = left_empty _ (assigns_to_no_array entity step) (right_empty (calls_no_subroutine entity step) _ units) in (
           each_flat parts (PartSo IsSo) (read_by step)
               (each_flat name_before_parenthesis (λ n. intrinsic_named n.name ≡ None → IsSo n.name) (parts_read step)
-              (each_by (flat_map name_before_parenthesis (parts_read step)) (λ n h. reference_runs n.name (entity n.name) (sees p (Known p is_named) all (bare_unit u) n.name) (not_false _ h))
+              (each_by (flat_map name_before_parenthesis (parts_read step)) (λ n h. reference_runs n.name (entity n.name) (sees p (Known p is_named) all (bare_unit u) n.name) (not-false _ h))
               (none_where _ (flat_map name_before_parenthesis (parts_read step)) read))),
           each_flat name_in (λ n. IsSo n.name) (left_of step)
-              (each_by (flat_map name_in (left_of step)) (λ n h. value_runs (entity n.name) (not_false _ h)) (none_where _ (flat_map name_in (left_of step)) left)),
+              (each_by (flat_map name_in (left_of step)) (λ n h. value_runs (entity n.name) (not-false _ h)) (none_where _ (flat_map name_in (left_of step)) left)),
         )
 
     pub calls_plain : in_each_step (undeclared_in_step entity) u ≡ [] → in_each_step (unit_faults_in_step entity) u ≡ [] → HaveLefts u.body → directed_in is_named u.body ≡ [] → CallsPlain p (bare_unit u)

@@ -20,12 +20,13 @@ use Rattle.sound_programs.specs.Placing.{placed, placed_unit, placed_stmts}
 use Rattle.sound_programs.specs.Scopes.{Of_unit, Of_module, scopes, entity_in}
 use Rattle.sound_programs.specs.Sound.{Sound}
 use Rattle.sound_programs.proofs.BareTrees.{unit_bare, placed_is_plain}
-use Rattle.sound_programs.proofs.SoundLaws.{empty_if_nowhere, left_empty, declares_once}
+use Rattle.sound_programs.proofs.SoundLaws.{empty_if_nowhere, declares_once}
+use Rattle.sound_programs.proofs.Empties.{left_empty, each_empty}
+use Rattle.sound_programs.proofs.WithinLists.{each_by, each_two, each_right, each_of_map, each_before_map}
+use Rattle.sound_programs.proofs.LeftSides.{HaveLefts, nested_lefts}
 use Rattle.translated_programs.specs.NotBuilt.{names_column_unit, unbuilt}
 use Rattle.translated_programs.specs.UnitLaws.{BuiltLaw, StandingLaw}
-use Rattle.translated_programs.proofs.Lists.{each_by, each_two, each_right, each_of_map, each_before_map, each_empty}
-use Rattle.translated_programs.proofs.Walking.{HaveLefts, undirected_all}
-use Rattle.translated_programs.proofs.Lefts.{nested_lefts}
+use Rattle.translated_programs.proofs.Walking.{undirected_all}
 use Rattle.translated_programs.proofs.DistinctNames.{units_distinct, names_differ, NamesDiffer, found_by_name, units_declare_once, modules_declare_once}
 use Rattle.translated_programs.proofs.PlainCalls.{Known, calls_plain}
 use Rattle.translated_programs.proofs.BuiltUnits.{OfAny, ColumnUnit, PlainUnit, column_unit, plain_of, all_built, all_named}

@@ -25,10 +25,10 @@ use Rattle.plain_units.specs.Regrouped.{regrouped}
 use Rattle.plain_units.specs.Translated.{TranslatesUnit, plain, TranslatesUnits, none as no_units, next, Translates, ArePlain, IsPlain}
 use Rattle.sound_programs.specs.Laws.{Each}
 use Rattle.sound_programs.specs.Sound.{Sound}
+use Rattle.sound_programs.proofs.WithinLists.{each_at}
 use Rattle.translated_programs.specs.NotBuilt.{unbuilt}
 use Rattle.translated_programs.specs.Translated.{translated, translated_unit, wide_in, wide_of, IsTranslatable, as_it_is, for_all_columns, AreTranslatable}
 use Rattle.translated_programs.specs.UnitLaws.{UnitLaws}
-use Rattle.translated_programs.proofs.Lists.{each_at}
 use Rattle.translated_programs.proofs.SoundUnits.{Stands, a_column, a_plain, all_stand}
 
 -- ---- Units by number
@@ -39,7 +39,7 @@ no_such a e = absurd (none_some a e)
     none_some : {A : Type 0} (a : A) → None ≡ Some a → ⊥
     none_some a e = cc
 
-mapped_at : {A B : Type 0} (f : A → B) (xs : List A) (i : ℕ) (x : A) (y : B) → slice_get xs i ≡ Some x → slice_get (map f xs) i ≡ Some y → y ≡ f x
+pub mapped_at : {A B : Type 0} (f : A → B) (xs : List A) (i : ℕ) (x : A) (y : B) → slice_get xs i ≡ Some x → slice_get (map f xs) i ≡ Some y → y ≡ f x
 mapped_at f [] i x y e h = no_such x e
 mapped_at f (z ∷ xs) zero x y e h = sym (some_is (f z) y h) ∙ ap f (some_is z x e)
   where

@@ -1,6 +1,6 @@
 -- What the placed statements of a unit tell of its plain ones: which names they refer to and call, and that no directive stands on them.
 use Rattle.std.proofs.Common.{◌≡◌, List, [], ◌∷◌, ◌++◌, Bool, true, false, ◌||◌, not, Option, None, Some, refl}
-use Rattle.std.specs.Prelude.{⊤, is_none}
+use Rattle.std.specs.Prelude.{is_none}
 use Rattle.std.specs.Option.{option_map, option_to_list}
 use Rattle.std.proofs.lemmas.Bool.{and_from}
 use Rattle.fort_tree.specs.declared.place.Place.{Place}
@@ -14,11 +14,9 @@ use Rattle.translated_programs.specs.Directed.{directed, directed_in, directed_i
 use Rattle.plain_units.specs.Undirected.{is_undirected, are_undirected, arms_undirected, cases_undirected, otherwise_undirected}
 use Rattle.plain_units.specs.Calling.{Refers, AllRefer, LimitRefers, OptionRefers, HeadRefers, Calls, AllCall, ArmsCall, CasesCall, OtherwiseCalls}
 use Rattle.scalar_units.specs.Unbuilt.{unless}
-use Rattle.sound_programs.proofs.SoundLaws.{left_empty, right_empty}
-use Rattle.translated_programs.proofs.Lists.{each_left, each_right}
-
-no_head : {A : Type 0} (x : A) (xs : List A) → x ∷ xs ≡ [] → ⊥
-no_head x xs e = cc
+use Rattle.sound_programs.proofs.Empties.{no_head, left_empty, right_empty}
+use Rattle.sound_programs.proofs.LeftSides.{IsLeft, HasLefts, HaveLefts, ArmsHaveLefts, CasesHaveLefts, OtherwiseHasLefts}
+use Rattle.sound_programs.proofs.WithinLists.{each_left, each_right}
 
 -- ---- No directives
 
@@ -70,42 +68,6 @@ module _ (is_column : Text → Bool) where
     undirected_otherwise : (other : Otherwise) → directed_in_otherwise is_column other ≡ [] → otherwise_undirected (bare_otherwise other) ≡ true
     undirected_otherwise Nothing_else e = refl
     undirected_otherwise (Else body) e = undirected_all body e
-
--- ---- Left sides are names, with subscripts or without
-
-abbrev pub IsLeft : Expr → Type 0
-IsLeft (Name x at) = ⊤
-IsLeft (Reference x subs at) = ⊤
-IsLeft other = ⊥
-
-abbrev mutual
-  pub HasLefts : Stmt → Type 0
-  HasLefts (Assign at left right) = IsLeft left
-  HasLefts (Call at name args forward) = ⊤
-  HasLefts (If at arms other) = ArmsHaveLefts arms × OtherwiseHasLefts other
-  HasLefts (Select at on cases other) = CasesHaveLefts cases × OtherwiseHasLefts other
-  HasLefts (Do at head body mark) = HaveLefts body
-  HasLefts (Block at mark body) = HaveLefts body
-  HasLefts (Piece body) = HaveLefts body
-  HasLefts (Exit at) = ⊤
-  HasLefts (Cycle at) = ⊤
-  HasLefts (Return at) = ⊤
-
-  pub HaveLefts : Stmts → Type 0
-  HaveLefts Done = ⊤
-  HaveLefts (Then s rest) = HasLefts s × HaveLefts rest
-
-  pub ArmsHaveLefts : Arms → Type 0
-  ArmsHaveLefts No_arm = ⊤
-  ArmsHaveLefts (Arm test body rest) = HaveLefts body × ArmsHaveLefts rest
-
-  pub CasesHaveLefts : Cases → Type 0
-  CasesHaveLefts No_case = ⊤
-  CasesHaveLefts (Case ranges body rest) = HaveLefts body × CasesHaveLefts rest
-
-  pub OtherwiseHasLefts : Otherwise → Type 0
-  OtherwiseHasLefts Nothing_else = ⊤
-  OtherwiseHasLefts (Else body) = HaveLefts body
 
 -- ---- What is referred to and called
 

@@ -1,10 +1,10 @@
 use Rattle.fort_tree.specs.declared.choice.Mode.TheVariants.{Source}
 use Rattle.column_rules.specs.Rules.{broken}
-use Rattle.sound_programs.proofs.SoundLaws.{left_empty}
 use Rattle.translated_programs.specs.NotBuilt.{unbuilt}
 use Rattle.claw_top.specs.Outcome.{bytes_of}
 use Rattle.claw_top.proofs.Translating.{is_translation}
 use Rattle.claw_top.proofs.compiling.make.Goals as goal
+use Rattle.sound_programs.proofs.Empties.{left_empty}
 
 -- src/compiling.rt
 pub translated-requires : goal.translated-requires

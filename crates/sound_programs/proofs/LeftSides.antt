@@ -27,11 +27,46 @@ use Rattle.fort_tree.specs.declared.unit.Unit as unit
 use Rattle.sound_programs.specs.Forms.{Form, is_reference, is_reference_level}
 use Rattle.sound_programs.specs.Laws.{Each}
 use Rattle.sound_programs.specs.Nesting.{Inside, arm, case, Simple, assigns, calls, exits, cycles, returns, Body, done, more, One, simple, forwarded, if_action, if_then, selects, loops, directed, block, Arms as Nested_arms, end_if, else_last, else_if, Cases as Nested_cases, end_select, case_of, default, IsUnit, subroutine, function, AreUnits, no_more_units, a_unit, Contained, contains_none, contains, IsModule, a_module, Nests_from, no_more, module_first, unit_first}
-use Rattle.sound_programs.specs.Placed.{Expr, Stmt, Arms, Cases}
+use Rattle.sound_programs.specs.Placed.{Expr, Name, Reference, Stmt, Assign, Call, If, Select, Do, Block, Piece, Exit, Cycle, Return, Stmts, Done, Then, Arms, No_arm, Arm, Cases, No_case, Case, Otherwise, Nothing_else, Else}
 use Rattle.sound_programs.specs.Placing.{Before, expr_step, sub_step, placed_expr, placed_sub, arms_of, cases_of, stmt_step, arm_step, case_step, placed_stmt, placed_stmts}
-use Rattle.translated_programs.proofs.Walking.{IsLeft, HasLefts, HaveLefts, ArmsHaveLefts, CasesHaveLefts}
 
 -- ---- Left sides
+
+-- a name, with subscripts or without
+abbrev pub IsLeft : Expr → Type 0
+IsLeft (Name x at) = ⊤
+IsLeft (Reference x subs at) = ⊤
+IsLeft other = ⊥
+
+abbrev mutual
+  -- all in a statement
+  pub HasLefts : Stmt → Type 0
+  HasLefts (Assign at left right) = IsLeft left
+  HasLefts (Call at name args forward) = ⊤
+  HasLefts (If at arms other) = ArmsHaveLefts arms × OtherwiseHasLefts other
+  HasLefts (Select at on cases other) = CasesHaveLefts cases × OtherwiseHasLefts other
+  HasLefts (Do at head body mark) = HaveLefts body
+  HasLefts (Block at mark body) = HaveLefts body
+  HasLefts (Piece body) = HaveLefts body
+  HasLefts (Exit at) = ⊤
+  HasLefts (Cycle at) = ⊤
+  HasLefts (Return at) = ⊤
+
+  pub HaveLefts : Stmts → Type 0
+  HaveLefts Done = ⊤
+  HaveLefts (Then s rest) = HasLefts s × HaveLefts rest
+
+  pub ArmsHaveLefts : Arms → Type 0
+  ArmsHaveLefts No_arm = ⊤
+  ArmsHaveLefts (Arm test body rest) = HaveLefts body × ArmsHaveLefts rest
+
+  pub CasesHaveLefts : Cases → Type 0
+  CasesHaveLefts No_case = ⊤
+  CasesHaveLefts (Case ranges body rest) = HaveLefts body × CasesHaveLefts rest
+
+  pub OtherwiseHasLefts : Otherwise → Type 0
+  OtherwiseHasLefts Nothing_else = ⊤
+  OtherwiseHasLefts (Else body) = HaveLefts body
 
 left_level : (x : Expr-F tree_expr.Expr tree_sub.Sub) → is_reference_level x ≡ true → IsLeft (expr_step (map-Expr tree_expr.Expr tree_sub.Sub Expr Before placed_expr placed_sub x))
 left_level (Expr-F.Number n kind at) e = absurd (false≢true e)
@@ -64,7 +99,7 @@ placed_case = fold-Case Stmt (Arms → Arms) (Cases → Cases) stmt_step arm_ste
 abbrev Lefts : tree_stmt.Stmt → Type 0
 Lefts s = HasLefts (placed_stmt s)
 
-abbrev LeftsIn : List tree_stmt.Stmt → Type 0
+abbrev pub LeftsIn : List tree_stmt.Stmt → Type 0
 LeftsIn ss = HaveLefts (placed_stmts ss)
 
 abbrev LeftsOther : Option (List tree_stmt.Stmt) → Type 0

@@ -1,25 +1,33 @@
--- What holds of each of a list where a list of faults that is made from it is empty.
+-- Lists that are empty, and what holds of each of a list where a list of faults that is made from it is empty.
 use Rattle.std.proofs.Common.{◌≡◌, List, [], ◌∷◌, ◌++◌, map, Bool, true, false, ◌&&◌, not, cond, Option, None, Some, refl, sym, subst, ◌∙◌}
-use Rattle.std.proofs.lemmas.Bool.{false≢true}
+use Rattle.std.proofs.lemmas.Bool.{false≢true, not-false}
 use Rattle.std.specs.Prelude.{flat_map, is_some, is_none}
 use Rattle.std.specs.List.{filter}
 use Rattle.fort_tree.specs.declared.place.Place.{Place}
 use Rattle.fort_tree.specs.declared.stmt.Named.{Named}
 use Rattle.sound_programs.specs.Laws.{Each}
 use Rattle.sound_programs.specs.NameFaults.{places_where}
-use Rattle.sound_programs.specs.Places.{where_place}
-use Rattle.sound_programs.proofs.SoundLaws.{left_empty, right_empty, map_empty}
+use Rattle.sound_programs.specs.Places.{where_place, the_first, earlier_of, first_of}
+use Rattle.sound_programs.proofs.WithinLists.{each_by}
 
 pub no_head : {A : Type 0} (x : A) (xs : List A) → x ∷ xs ≡ [] → ⊥
 no_head x xs e = cc
 
+pub left_empty : {A : Type 0} (xs ys : List A) → xs ++ ys ≡ [] → xs ≡ []
+left_empty [] ys e = refl
+left_empty (x ∷ xs) ys e = absurd (no_head x (xs ++ ys) e)
+
+pub right_empty : {A : Type 0} (xs ys : List A) → xs ++ ys ≡ [] → ys ≡ []
+right_empty [] ys e = e
+right_empty (x ∷ xs) ys e = absurd (no_head x (xs ++ ys) e)
+
+pub map_empty : {A B : Type 0} (f : A → B) (xs : List A) → map f xs ≡ [] → xs ≡ []
+map_empty f [] e = refl
+map_empty f (x ∷ xs) e = absurd (no_head (f x) (map f xs) e)
+
 pub each_empty : {A B : Type 0} (f : A → List B) (xs : List A) → flat_map f xs ≡ [] → Each xs (λ x. f x ≡ [])
 each_empty f [] e = tt
 each_empty f (x ∷ xs) e = (left_empty (f x) (flat_map f xs) e, each_empty f xs (right_empty (f x) (flat_map f xs) e))
-
-pub each_by : {A : Type 0} {P Q : A → Type 0} (xs : List A) → ((x : A) → P x → Q x) → Each xs P → Each xs Q
-each_by [] by all = tt
-each_by (x ∷ xs) by all = (by x all.0, each_by xs by all.1)
 
 -- from a list of faults of each to what holds of each
 pub each_from : {A B : Type 0} {Q : A → Type 0} (f : A → List B) (xs : List A) → ((x : A) → f x ≡ [] → Q x) → flat_map f xs ≡ [] → Each xs Q
@@ -32,6 +40,10 @@ none_kept test (x ∷ xs) e = go (none_kept test xs) (test x) refl
     go : (filter test xs ≡ [] → Each xs (λ x. test x ≡ false)) → (b : Bool) → test x ≡ b → Each (x ∷ xs) (λ x. test x ≡ false)
     go rest true h = absurd (no_head x (filter test xs) (subst (λ b. cond b (x ∷ filter test xs) (filter test xs) ≡ []) h e))
     go rest false h = (h, rest (subst (λ b. cond b (x ∷ filter test xs) (filter test xs) ≡ []) h e))
+
+pub first_empty : (places : List Place) → the_first places ≡ [] → places ≡ []
+first_empty [] e = refl
+first_empty (a ∷ rest) e = absurd (no_head (earlier_of a (first_of rest)) [] e)
 
 pub none_where : (test : Named → Bool) (names : List Named) → places_where test names ≡ [] → Each names (λ n. test n ≡ false)
 none_where test names e = none_kept test names (map_empty (λ (n : Named). n.at) (filter test names) e)
@@ -52,16 +64,12 @@ pub not_placed : (b : Bool) (place : Place) → where_place b place ≡ [] → b
 not_placed true place e = absurd (no_head place [] e)
 not_placed false place e = refl
 
-pub not_false : (b : Bool) → not b ≡ false → b ≡ true
-not_false true e = refl
-not_false false e = sym e
-
 pub other_false : (b c : Bool) → b && c ≡ false → b ≡ true → c ≡ false
 other_false true c e h = e
 other_false false c e h = absurd (false≢true h)
 
 pub then_true : (b c : Bool) → b && not c ≡ false → b ≡ true → c ≡ true
-then_true b c e h = not_false c (other_false b (not c) e h)
+then_true b c e h = not-false c (other_false b (not c) e h)
 
 -- what is chosen is empty
 pub chosen_empty : {A : Type 0} (b : Bool) (xs : List A) → cond b xs [] ≡ [] → b ≡ true → xs ≡ []
@@ -79,24 +87,3 @@ not_some (Some x) e = absurd (false≢true (sym e))
 pub not_none : {A : Type 0} (o : Option A) → is_none o ≡ false → is_some o ≡ true
 not_none None e = sym e
 not_none (Some x) e = refl
-
--- what holds of each scope holds of each unit
-pub each_in_append : {A : Type 0} (P : A → Type 0) (xs ys : List A) → Each (xs ++ ys) P → Each ys P
-each_in_append P [] ys all = all
-each_in_append P (x ∷ xs) ys all = each_in_append P xs ys all.1
-
-pub each_before_map : {A B : Type 0} (f : A → B) (P : B → Type 0) (xs : List A) → Each (map f xs) P → Each xs (λ x. P (f x))
-each_before_map f P [] all = tt
-each_before_map f P (x ∷ xs) all = (all.0, each_before_map f P xs all.1)
-
-pub each_before_append : {A : Type 0} (P : A → Type 0) (xs ys : List A) → Each (xs ++ ys) P → Each xs P
-each_before_append P [] ys all = tt
-each_before_append P (x ∷ xs) ys all = (all.0, each_before_append P xs ys all.1)
-
-pub each_of_parts : {A B : Type 0} (f : A → List B) (P : B → Type 0) (xs : List A) → Each (flat_map f xs) P → Each xs (λ x. Each (f x) P)
-each_of_parts f P [] all = tt
-each_of_parts f P (x ∷ xs) all = (each_before_append P (f x) (flat_map f xs) all, each_of_parts f P xs (each_in_append P (f x) (flat_map f xs) all))
-
-pub both_of : {A : Type 0} (P Q : A → Type 0) (xs : List A) → Each xs P → Each xs Q → Each xs (λ x. P x × Q x)
-both_of P Q [] a b = tt
-both_of P Q (x ∷ xs) a b = ((a.0, b.0), both_of P Q xs a.1 b.1)
