@@ -1,5 +1,5 @@
 //! Faults of ranks in declarations.
-ghost use Rattle.std.specs.Prelude.{◌≡◌, ◌∷◌, ◌||◌, [], is_none, is_some, map, flat_map, nat_lt, length};
+ghost use Rattle.std.specs.Prelude.{◌≡◌, ◌∷◌, ◌&&◌, ◌||◌, [], is_none, is_some, map, flat_map, nat_lt, length};
 ghost use Rattle.fort_tree.specs.declared.fault.Code.TheVariants.{E33};
 ghost use Rattle.std.specs.Str.{bytes_eq};
 ghost use Rattle.sound_programs.specs.Faults.{found};
